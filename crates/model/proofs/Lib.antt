@@ -1,0 +1,3 @@
+pub mod Bitwords
+pub mod Finds
+pub mod Words

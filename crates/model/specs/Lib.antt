@@ -1,0 +1,6 @@
+pub mod Automata
+pub mod Charts
+pub mod Faults
+pub mod Generators
+pub mod Numbers
+pub mod Sets
