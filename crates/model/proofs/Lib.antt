@@ -1,3 +1,4 @@
 pub mod Bitwords
 pub mod Finds
+pub mod Places
 pub mod Words

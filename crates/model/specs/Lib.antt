@@ -3,4 +3,5 @@ pub mod Charts
 pub mod Faults
 pub mod Generators
 pub mod Numbers
+pub mod Readings
 pub mod Sets

@@ -29,15 +29,15 @@ impl Layer {
 #[derive(Clone, Copy, PartialEq, Eq, Debug)]
 pub enum Fault {
     // the file is too long or too short, or its first three bytes are wrong
-    Header { place: u16 },
+    Header { place: u32 },
     // the contents are cut off, or a row of them is wrong
-    Contents { place: u16 },
+    Contents { place: u32 },
     // a byte of an event row is wrong
-    Event { place: u16 },
+    Event { place: u32 },
     // the level owns no request or no answer
     Level { level: u8 },
     // a body departs from its make; the component is not told in code
-    Body { component: Option<u8>, place: u16 },
+    Body { component: Option<u8>, place: u32 },
     // the bank has not two components and three for each level
     Components,
     // a walk has more than 4,096 states; level 0 is the high one
@@ -64,7 +64,7 @@ pub struct Fields {
     pub point: u8,
     pub level: u8,
     pub component: u8,
-    pub place: u16,
+    pub place: u32,
     pub event: u8,
 }
 
@@ -105,7 +105,7 @@ impl Fault {
             Fault::WalkSize { level } => Fields { number: 12, layer: Layer::Check, level, ..none },
             Fault::WorkCells { layer } => Fields { number: 13, layer, ..none },
             Fault::Alphabet { level, component, event } => Fields { number: 14, layer: Layer::Check, point: 1, level, component, event, ..none },
-            Fault::Point { point, level, state, event } => Fields { number: 14, layer: Layer::Check, point, level, place: state, event: or_unused(event), ..none },
+            Fault::Point { point, level, state, event } => Fields { number: 14, layer: Layer::Check, point, level, place: u32::from(state), event: or_unused(event), ..none },
             Fault::EventNumber { event } => Fields { number: 21, layer: Layer::Run, event, ..none },
             Fault::Refused { component, event } => Fields { number: 22, layer: Layer::Run, component, event, ..none },
             Fault::PossibleSlice => Fields { number: 23, layer: Layer::Run, ..none },
