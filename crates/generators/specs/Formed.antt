@@ -42,20 +42,20 @@ pub loops-beyond : (n s : ℕ) (m : Bool) (x : Next) → n ≤ s → ((x ≡ For
 loops-beyond n s m x h (inl k) = rw k
 loops-beyond n s m x h (inr k) = let b = le-ltb s n h in rw (k .0, k .1, b)
 
-pub looped-formed : (g : Gen) (w : ℕ) → WellFormed g → WellFormed (looped g w)
-looped-formed g w f = record {
+pub looped-formed : (g : Gen) (inSet : ℕ → Bool) → ((e : ℕ) → inSet e ≡ true → e < 64) → WellFormed g → WellFormed (looped g inSet)
+looped-formed g inSet small f = record {
   some = f .some;
   few = f .few;
   begins = f .begins;
-  events = λ e h. ⊎-elim (f .events e) (member-small w e) (or-cases (g .knows e) (member w e) h);
+  events = λ e h. ⊎-elim (f .events e) (small e) (or-cases (g .knows e) (inSet e) h);
   marks = f .marks;
-  foreign = λ s e h. let p = or-parts (g .knows e) (member w e) h in loops-out (g .count) s (member w e) (g .next s e) (p .1) ∙ f .foreign s e (p .0);
-  known = λ s e h. let p = loops-foreign (g .count) s (member w e) (g .next s e) h in or-from (g .knows e) (member w e) (f .known s e (p .0)) (p .1);
-  inside = λ s e t h. ⊎-elim (f .inside s e t) (λ k. k) (loops-to (g .count) s t (member w e) (g .next s e) h);
+  foreign = λ s e h. let p = or-parts (g .knows e) (inSet e) h in loops-out (g .count) s (inSet e) (g .next s e) (p .1) ∙ f .foreign s e (p .0);
+  known = λ s e h. let p = loops-foreign (g .count) s (inSet e) (g .next s e) h in or-from (g .knows e) (inSet e) (f .known s e (p .0)) (p .1);
+  inside = λ s e t h. ⊎-elim (f .inside s e t) (λ k. k) (loops-to (g .count) s t (inSet e) (g .next s e) h);
   beyond = λ s e h k.
-      loops-beyond (g .count) s (member w e) (g .next s e) k
+      loops-beyond (g .count) s (inSet e) (g .next s e) k
       (⊎-elim
       (λ b. inl (f .beyond s e b k))
-      (λ b. inr (f .foreign s e b, ⊎-elim (λ a. absurd (both-ways (g .knows e) b a)) (λ a. a) (or-cases (g .knows e) (member w e) h)))
+      (λ b. inr (f .foreign s e b, ⊎-elim (λ a. absurd (both-ways (g .knows e) b a)) (λ a. a) (or-cases (g .knows e) (inSet e) h)))
       (cases-bool (g .knows e)));
 }

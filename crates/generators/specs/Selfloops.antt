@@ -3,7 +3,6 @@ use mathlib.Core.Bool.{Bool, cond, _||_}
 use Prim.Native.Nat.{ℕ}
 use lib.Dec.{ltb}
 use Rattle.model.specs.Generators.{Gen}
-use Rattle.model.specs.Sets.{member}
 use Rattle.model.specs.declared.next.Next.{Next}
 use Rattle.model.specs.declared.next.Next.the-variants.{Foreign, Forbidden, To}
 
@@ -14,12 +13,12 @@ loops n s m Foreign = cond m (cond (ltb s n) (To s) Forbidden) Foreign
 loops n s m Forbidden = Forbidden
 loops n s m (To t) = To t
 
--- the generator g with selfloops of the events in the word w
-abbrev pub looped : Gen → ℕ → Gen
-looped g w = record {
+-- the generator g with selfloops of the events that the set tells
+abbrev pub looped : Gen → (ℕ → Bool) → Gen
+looped g inSet = record {
   count = g .count;
   initial = g .initial;
-  knows = λ e. g .knows e || member w e;
+  knows = λ e. g .knows e || inSet e;
   marked = g .marked;
-  next = λ s e. loops (g .count) s (member w e) (g .next s e);
+  next = λ s e. loops (g .count) s (inSet e) (g .next s e);
 }

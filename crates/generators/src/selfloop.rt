@@ -1,7 +1,7 @@
 // The selfloop layer: over any generator, with a set of events, again a generator.
-ghost use mathlib.Core.Path.{_≡_};
 ghost use Rattle.generators.specs.Selfloops.{looped};
-ghost use Rattle.generators.specs.Formed.{looped-formed};
+ghost use Rattle.generators.specs.Formed.{looped-formed, member-small};
+ghost use Rattle.model.specs.Sets.{member};
 use crate::generator::Generator;
 use model::next::Next;
 use model::set::EventSet;
@@ -14,9 +14,9 @@ pub struct Selfloop<G: Generator> {
 }
 
 pub impl<G: Generator> Generator for Selfloop<G> as SelfloopGenerator {
-    ghost meaning = { λ s. looped (G·Generator .meaning (s .inner)) (s .events .word) };
+    ghost meaning = { λ s. looped (G·Generator .meaning (s .inner)) (member (s .events .word)) };
 
-    ghost formed = { λ s. looped-formed (G·Generator .meaning (s .inner)) (s .events .word) (G·Generator .formed (s .inner)) };
+    ghost formed = { λ s. looped-formed (G·Generator .meaning (s .inner)) (member (s .events .word)) (member-small (s .events .word)) (G·Generator .formed (s .inner)) };
 
     fn count(&self) -> u16 {
         self.inner.count()

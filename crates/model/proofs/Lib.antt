@@ -1,4 +1,5 @@
 pub mod Bitwords
 pub mod Finds
 pub mod Places
+pub mod Turns
 pub mod Words

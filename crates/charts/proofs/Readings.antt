@@ -1,0 +1,41 @@
+-- What the readers give, case by case. Assumes nothing.
+use mathlib.Core.Path.{_≡_, refl, sym, ap, ap₂, _∙_}
+use mathlib.Core.Bool.{Bool, true, false, cond, not, _&&_}
+use mathlib.Core.List.{List}
+use mathlib.Core.Logic.{inl, inr}
+use Prim.Native.Nat.{ℕ, suc, _+_, _-_, _*_, _<_, _≤_}
+use native.Mathlib.Omega.{arith}
+use lib.Dec.{eqb, ltb, leb}
+use lib.ListN.{length, drop}
+use Rattle.std.proofs.shelf.Tests.{lt-leb, le-leb, eq-eqb, ne-eqb}
+use Rattle.std.specs.declared.result.Result.{Result}
+use Rattle.std.specs.declared.result.Result.the-variants.{Ok, Err}
+use Rattle.model.specs.Charts.{EventChart, ownsRequest, ownsAnswer}
+use Rattle.model.specs.Readings.{firstOff, orBound}
+use Rattle.model.specs.declared.fault.Fault.{Fault}
+use Rattle.model.specs.declared.fault.Fault.the-variants.{Contents, Event}
+use Rattle.model.proofs.Places.{first-off}
+use Rattle.charts.specs.Rows.{byteFits, firstWrong, chartIn, completed, rowsReading, chartReading}
+use Rattle.charts.specs.RowSteps.{RightBytes}
+
+module _ (n events : ℕ) (rows : List ℕ) (origin : ℕ) where
+  pub rows-short : length rows < 3 * events → Err (Contents (origin + length rows)) ≡ rowsReading n events rows origin
+  unfolding rowsReading
+  rows-short h = rw (lt-leb (3 * events) (length rows) h) refl
+
+  pub rows-long : 3 * events < length rows → Err (Contents (origin + 3 * events)) ≡ rowsReading n events rows origin
+  unfolding rowsReading
+  rows-long h = rw (le-leb (3 * events) (length rows) (omega arith), lt-leb (length rows) (3 * events) h) refl
+
+  pub rows-wrong : (fault : Fault) → length rows ≡ 3 * events → (fault ≡ Event (origin + firstWrong n events rows)) × (firstWrong n events rows < 3 * events)
+      → Err fault ≡ rowsReading n events rows origin
+  unfolding rowsReading
+  rows-wrong fault h f =
+      rw (le-leb (3 * events) (length rows) (omega arith), le-leb (length rows) (3 * events) (omega arith), ne-eqb (firstWrong n events rows) (3 * events) (λ s. omega (arith, f .1)))
+      (ap Err (f .0))
+
+  pub rows-right : length rows ≡ 3 * events → RightBytes n rows events → rowsReading n events rows origin ≡ completed (chartIn n events rows)
+  unfolding rowsReading firstWrong
+  rows-right h right =
+      let off : firstWrong n events rows ≡ 3 * events = first-off (3 * events) (byteFits n rows) (3 * events) (omega arith) right (λ q. absurd (omega arith)) in
+      rw (le-leb (3 * events) (length rows) (omega arith), le-leb (length rows) (3 * events) (omega arith), eq-eqb (firstWrong n events rows) (3 * events) off) refl

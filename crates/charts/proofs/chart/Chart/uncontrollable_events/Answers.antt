@@ -1,0 +1,5 @@
+use Rattle.charts.proofs.Sets.{in-uncontrollable}
+use Rattle.charts.proofs.chart.Chart.uncontrollable_events.Needs as need
+
+pub returns : need.returns
+returns c = in-uncontrollable (c .args .self .now)

@@ -1,0 +1,6 @@
+pub mod Alphabets
+pub mod Headers
+pub mod Meanings
+pub mod RowSteps
+pub mod Rows
+pub mod Words

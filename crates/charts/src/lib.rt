@@ -1,0 +1,3 @@
+// The chart of events and its readers.
+pub mod chart;
+pub mod header;

@@ -1,0 +1,5 @@
+pub mod Banked
+pub mod ComponentSteps
+pub mod FileSteps
+pub mod Rows
+pub mod Same

@@ -1,0 +1,4 @@
+pub mod Bank
+pub mod File
+pub mod Formed
+pub mod Layout

@@ -1,0 +1,4 @@
+pub mod Columns
+pub mod Departures
+pub mod Parts
+pub mod Plain

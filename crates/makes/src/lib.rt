@@ -1,0 +1,7 @@
+// The makes of generators: each is read from the bytes of a body, and is a generator.
+mod bytes;
+mod fits;
+mod generator;
+pub mod law;
+pub mod make;
+pub use generator::MakeGenerator;
