@@ -1,0 +1,2 @@
+// What is reported of a line file.
+pub mod verdict;
