@@ -2,7 +2,7 @@
 use mathlib.Core.Path.{_≡_, refl, sym, ap, _∙_}
 use mathlib.Core.Bool.{Bool, true, false, not, _&&_}
 use mathlib.Core.Logic.{inl, inr, _≢_}
-use Prim.Native.Nat.{ℕ, zero, suc, _-_, _/_, _%_, _^_, _<_, _≤_}
+use Prim.Native.Nat.{ℕ, zero, suc, _-_, _/_, _%_, _^_, _<_}
 use native.Mathlib.Omega.{arith}
 use lib.Bits.{bitAnd}
 use lib.Dec.{eqb, ltb}
@@ -69,11 +69,11 @@ module _ (w n : ℕ) (p : ℕ → Bool) (same : (e : ℕ) → member w e ≡ (lt
         | inl t ↦ t
         | inr f ↦
             let out : (k : ℕ) → k < 64 → bit w k ≡ false =
-                λ k h. elim (cases-bool (bit w k)) [
-                  | inl b ↦
-                      let m = and-parts (ltb k n) (p k) (sym (same k) ∙ and-from (ltb k 64) (bit w k) (lt-ltb k 64 h) b) in
-                      never (any-from n p k (ltb-true k n (m .0)) (m .1)) f
-                  | inr b ↦ b
-                ] in
+            λ k h. elim (cases-bool (bit w k)) [
+              | inl b ↦
+                  let m = and-parts (ltb k n) (p k) (sym (same k) ∙ and-from (ltb k 64) (bit w k) (lt-ltb k 64 h) b) in
+                  never (any-from n p k (ltb-true k n (m .0)) (m .1)) f
+              | inr b ↦ b
+            ] in
             absurd (some (bits-none 64 w l out))
       ]

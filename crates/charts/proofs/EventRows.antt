@@ -1,5 +1,5 @@
 -- The words that the event rows give. Assumes nothing.
-use mathlib.Core.Path.{_≡_, refl, sym, ap, ap₂, subst, _∙_}
+use mathlib.Core.Path.{_≡_, refl, sym, ap, ap₂, _∙_}
 use mathlib.Core.Bool.{Bool, true, false, cond, _&&_, _||_}
 use mathlib.Core.List.{List}
 use mathlib.Core.Logic.{_⊎_, inl, inr}
@@ -10,9 +10,8 @@ use lib.Dec.{eqb, ltb, leb}
 use lib.ListN.{length, getD, set, take, drop, replicate}
 use Rattle.std.proofs.shelf.Lists.{getD-set-same, getD-set-other, getD-drop, getD-replicate, take-rest, drop-drop}
 use Rattle.std.proofs.shelf.Tests.{lt-ltb, le-ltb, eq-eqb, ne-eqb, eqb-true, leb-true, and-parts, and-left, cases-lt, cases-eq, cases-bool}
-use Rattle.std.specs.declared.result.Result.{Result}
 use Rattle.std.specs.declared.result.Result.the-variants.{Ok, Err}
-use Rattle.model.specs.Charts.{EventChart, isRequest, isAnswer}
+use Rattle.model.specs.Charts.{isRequest, isAnswer}
 use Rattle.model.specs.Readings.{provided}
 use Rattle.model.specs.Sets.{member}
 use Rattle.model.specs.declared.fault.Fault.{Fault}
@@ -155,21 +154,21 @@ module _ (n : ℕ) (rows : List ℕ) (i : ℕ) where
   pub gathered-more : (before after : Words) (row : Row) → Says row → Gathered rows i before → Added before after i row → Gathered rows (i + 1) after
   gathered-more before after row s g a = record {
     owned = λ j e h.
-      a .owned j e h
-      ∙ ap₂ (λ (x y : Bool). x || (eqb e i && y)) (g .owned j e h) (ap (λ (o : ℕ). eqb o j) (s .owner))
-      ∙ more (λ k. eqb (getD rows (3 * k + 1) 0) j) i e;
+        a .owned j e h
+        ∙ ap₂ (λ (x y : Bool). x || (eqb e i && y)) (g .owned j e h) (ap (λ (o : ℕ). eqb o j) (s .owner))
+        ∙ more (λ k. eqb (getD rows (3 * k + 1) 0) j) i e;
     requests = λ e.
-      a .requests e
-      ∙ ap₂ (λ (x y : Bool). x || (eqb e i && y)) (g .requests e) (ap isRequest (s .kind))
-      ∙ more (λ k. isRequest (kindOf (getD rows (3 * k) 0))) i e;
+        a .requests e
+        ∙ ap₂ (λ (x y : Bool). x || (eqb e i && y)) (g .requests e) (ap isRequest (s .kind))
+        ∙ more (λ k. isRequest (kindOf (getD rows (3 * k) 0))) i e;
     answers = λ e.
-      a .answers e
-      ∙ ap₂ (λ (x y : Bool). x || (eqb e i && y)) (g .answers e) (ap isAnswer (s .kind))
-      ∙ more (λ k. isAnswer (kindOf (getD rows (3 * k) 0))) i e;
+        a .answers e
+        ∙ ap₂ (λ (x y : Bool). x || (eqb e i && y)) (g .answers e) (ap isAnswer (s .kind))
+        ∙ more (λ k. isAnswer (kindOf (getD rows (3 * k) 0))) i e;
     uncontrollable = λ e.
-      a .uncontrollable e
-      ∙ ap₂ (λ (x y : Bool). x || (eqb e i && y)) (g .uncontrollable e) (s .uncontrollable)
-      ∙ more (λ k. eqb (getD rows (3 * k + 2) 0) 117) i e;
+        a .uncontrollable e
+        ∙ ap₂ (λ (x y : Bool). x || (eqb e i && y)) (g .uncontrollable e) (s .uncontrollable)
+        ∙ more (λ k. eqb (getD rows (3 * k + 2) 0) 117) i e;
   }
 
   -- the fault of the row is that of the first wrong byte
@@ -179,10 +178,10 @@ module _ (n : ℕ) (rows : List ℕ) (i : ℕ) where
   unfolding firstWrong
   row-wrong events origin rest fault lt before here p =
       let at : (k : ℕ) → k < 3 * events → ((m : ℕ) → m < k → byteFits n rows m ≡ true) → byteFits n rows k ≡ false → fault ≡ Event (origin + k)
-          → (fault ≡ Event (origin + firstWrong n events rows)) × (firstWrong n events rows < 3 * events) =
-          λ k w q f e.
-          let is : firstWrong n events rows ≡ k = first-off (3 * events) (byteFits n rows) k (omega arith) q (λ _. f) in
-          (e ∙ ap (λ (m : ℕ). Event (origin + m)) (sym is), omega arith) in
+      → (fault ≡ Event (origin + firstWrong n events rows)) × (firstWrong n events rows < 3 * events) =
+      λ k w q f e.
+      let is : firstWrong n events rows ≡ k = first-off (3 * events) (byteFits n rows) k (omega arith) q (λ _. f) in
+      (e ∙ ap (λ (m : ℕ). Event (origin + m)) (sym is), omega arith) in
       elim (three-err (isKind letter) (ownerFits n letter number) (isControl control) (Event (origin + 3 * i)) (Event (origin + 3 * i + 1)) (Event (origin + 3 * i + 2)) said fault (p ∙ row-reading rest (origin + 3 * i) here)) [
         | inl a ↦ at (3 * i) (omega arith) before (fits-kind ∙ a .0) (a .1)
         | inr b ↦ elim b [

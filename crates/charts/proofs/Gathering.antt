@@ -7,14 +7,14 @@ use Prim.Native.Nat.{ℕ, _+_, _*_, _<_, _≤_}
 use native.Mathlib.Omega.{arith}
 use lib.Dec.{eqb, ltb, leb}
 use lib.ListN.{getD}
-use Rattle.std.proofs.shelf.Tests.{lt-ltb, le-ltb, eq-eqb, ne-eqb, eqb-true, leb-true, and-parts, cases-lt, cases-bool}
+use Rattle.std.proofs.shelf.Tests.{lt-ltb, le-ltb, eq-eqb, ne-eqb, leb-true, and-parts, cases-lt, cases-bool}
 use Rattle.model.specs.Charts.{EventChart, isRequest, isAnswer}
 use Rattle.model.specs.Readings.{orBound}
 use Rattle.model.specs.Sets.{member}
 use Rattle.model.specs.declared.kind.Kind.{Kind}
 use Rattle.model.specs.declared.kind.Kind.the-variants.{High, Low, Request, Answer}
 use Rattle.model.proofs.Finds.{is-first}
-use Rattle.charts.specs.Rows.{kindOf, ownerFits, byteFits, chartIn}
+use Rattle.charts.specs.Rows.{kindOf, ownerFits, chartIn}
 use Rattle.charts.specs.RowSteps.{Gathered, RightBytes, wordsChart, Agree}
 use Rattle.charts.specs.Words.{ownerIn, kindIn, chartFrom}
 use Rattle.charts.specs.declared.chart.rows.Words.{Words}
@@ -102,16 +102,16 @@ module _ (n events : ℕ) (rows : List ℕ) (w : Words) (few : n ≤ 8) (g : Gat
   unfolding chartFrom
   gathered-agree = record {
     owners = λ j e h.
-      g .owned j e h
-      ∙ under e events (eqb (getD rows (3 * e + 1) 0) j) (eqb (wordsChart n events w .owner e) j) (λ lt. ap (λ (o : ℕ). eqb o j) (sym (owner-held e lt)));
+        g .owned j e h
+        ∙ under e events (eqb (getD rows (3 * e + 1) 0) j) (eqb (wordsChart n events w .owner e) j) (λ lt. ap (λ (o : ℕ). eqb o j) (sym (owner-held e lt)));
     asking = λ e.
-      g .requests e
-      ∙ under e events (isRequest (kindOf (getD rows (3 * e) 0))) (isRequest (wordsChart n events w .kind e)) (λ lt. ap isRequest (sym (kind-held e lt)));
+        g .requests e
+        ∙ under e events (isRequest (kindOf (getD rows (3 * e) 0))) (isRequest (wordsChart n events w .kind e)) (λ lt. ap isRequest (sym (kind-held e lt)));
     answering = λ e.
-      g .answers e
-      ∙ under e events (isAnswer (kindOf (getD rows (3 * e) 0))) (isAnswer (wordsChart n events w .kind e)) (λ lt. ap isAnswer (sym (kind-held e lt)));
+        g .answers e
+        ∙ under e events (isAnswer (kindOf (getD rows (3 * e) 0))) (isAnswer (wordsChart n events w .kind e)) (λ lt. ap isAnswer (sym (kind-held e lt)));
     control = λ e.
-      g .uncontrollable e
-      ∙ under e events (eqb (getD rows (3 * e + 2) 0) 117) (member (w .uncontrollable) e) (λ lt. sym (g .uncontrollable e ∙ here e lt (eqb (getD rows (3 * e + 2) 0) 117)));
+        g .uncontrollable e
+        ∙ under e events (eqb (getD rows (3 * e + 2) 0) 117) (member (w .uncontrollable) e) (λ lt. sym (g .uncontrollable e ∙ here e lt (eqb (getD rows (3 * e + 2) 0) 117)));
     within = λ e h. rw (owner-held e h) (owner-small e h);
   }

@@ -1,21 +1,18 @@
 -- The lowest level that lacks a request or an answer. Assumes nothing.
 use mathlib.Core.Path.{_≡_, refl, sym, ap, ap₂, _∙_}
 use mathlib.Core.Bool.{Bool, true, false, not, _&&_}
-use mathlib.Core.List.{List}
 use mathlib.Core.Logic.{_⊎_, inl, inr, _≢_}
-use Prim.Native.Nat.{ℕ, zero, suc, _+_, _-_, _^_, _<_, _≤_}
+use Prim.Native.Nat.{ℕ, suc, _-_, _^_, _<_, _≤_}
 use native.Mathlib.Omega.{arith}
 use lib.Bits.{bitAnd}
 use lib.Dec.{eqb, ltb}
 use lib.ListN.{getD}
 use Rattle.std.proofs.shelf.Bits.{and-le-r}
 use Rattle.std.proofs.shelf.Tests.{ltb-true, lt-ltb, le-ltb, and-parts, and-from, and-left, and-right, not-false, cases-lt}
-use Rattle.std.specs.declared.result.Result.{Result}
 use Rattle.std.specs.declared.result.Result.the-variants.{Ok, Err}
-use Rattle.model.specs.Charts.{EventChart, isRequest, isAnswer, inLevel, ownsRequest, ownsAnswer}
+use Rattle.model.specs.Charts.{EventChart, isRequest, isAnswer, ownsRequest, ownsAnswer}
 use Rattle.model.specs.Readings.{firstOff, orBound}
 use Rattle.model.specs.Sets.{member}
-use Rattle.model.specs.declared.fault.Fault.{Fault}
 use Rattle.model.specs.declared.fault.Fault.the-variants.{Level}
 use Rattle.model.proofs.Bitwords.{member-and}
 use Rattle.model.proofs.Finds.{first-or}
@@ -53,7 +50,7 @@ module _ (c : EventChart) where
   lacks-at level some within before off =
       let at : suc (level - 1) ≡ level = omega arith in
       let first : firstOff (c .levels) (λ k. both (suc k)) ≡ level - 1 =
-          first-off (c .levels) (λ k. both (suc k)) (level - 1) (omega arith) (λ k h. before (suc k) (omega arith) (omega arith)) (λ _. ap both at ∙ off) in
+      first-off (c .levels) (λ k. both (suc k)) (level - 1) (omega arith) (λ k h. before (suc k) (omega arith) (omega arith)) (λ _. ap both at ∙ off) in
       let is : lacking c ≡ level = ap suc first ∙ at in
       rw (is, le-ltb (c .levels) level within) refl
 
@@ -61,7 +58,7 @@ module _ (c : EventChart) where
   unfolding lacking
   lacks-none all =
       let first : firstOff (c .levels) (λ k. both (suc k)) ≡ c .levels =
-          first-off (c .levels) (λ k. both (suc k)) (c .levels) (omega arith) (λ k h. all (suc k) (omega arith) (omega arith)) (λ h. absurd (omega arith)) in
+      first-off (c .levels) (λ k. both (suc k)) (c .levels) (omega arith) (λ k h. all (suc k) (omega arith) (omega arith)) (λ h. absurd (omega arith)) in
       let is : ltb (c .levels) (lacking c) ≡ true = lt-ltb (c .levels) (lacking c) (omega (arith, first)) in
       rw is refl
 

@@ -1,30 +1,26 @@
 -- The words of a chart as alphabets. Assumes nothing.
 use mathlib.Core.Path.{_≡_, refl, sym, ap, ap₂, _∙_}
 use mathlib.Core.Bool.{Bool, true, false, cond, not, _&&_, _||_}
-use mathlib.Core.List.{List}
 use mathlib.Core.Logic.{inl, inr}
-use Prim.Native.Nat.{ℕ, zero, suc, _-_, _/_, _%_, _^_, _<_, _≤_, _+_, _*_}
+use Prim.Native.Nat.{ℕ, _<_, _≤_}
 use native.Mathlib.Omega.{arith}
-use lib.Bits.{bitAnd, bitOr}
+use lib.Bits.{bitOr}
 use lib.Dec.{eqb, ltb}
 use lib.ListN.{getD}
-use Rattle.std.proofs.shelf.Bits.{shr-shr, pow-add}
 use Rattle.std.proofs.shelf.Tests.{lt-ltb, le-ltb, ne-eqb, and-left, and-right, cases-lt}
-use Rattle.std.specs.declared.option.Option.{Option}
 use Rattle.std.specs.declared.option.Option.the-variants.{Some, None}
-use Rattle.model.specs.Charts.{EventChart, WellCharted, isLow, isRequest, isAnswer, inHigh, inLevel}
-use Rattle.model.specs.Sets.{bit, member}
+use Rattle.model.specs.Charts.{isLow, isRequest, isAnswer, inHigh, inLevel}
+use Rattle.model.specs.Sets.{member}
 use Rattle.model.specs.declared.kind.Kind.{Kind}
-use Rattle.model.specs.declared.kind.Kind.the-variants.{High, Low, Request, Answer}
-use Rattle.model.proofs.Bitwords.{member-or, member-and, member-zero}
+use Rattle.model.proofs.Bitwords.{member-or, member-zero}
 use Rattle.model.proofs.Finds.{never}
 use Rattle.charts.specs.Alphabets.{inLow, kindAt, ownerAt}
 use Rattle.charts.specs.Meanings.{chartOf}
-use Rattle.charts.specs.Words.{kindIn, chartFrom}
+use Rattle.charts.specs.Words.{kindBy, kindIn, chartFrom}
 use Rattle.charts.specs.declared.chart.Chart.{Chart}
 use Rattle.charts.proofs.Rules.{well-charted, kind-within, owner-from, level-from}
 
-not-low : (h r a : Bool) → ((h || r) || a) ≡ not (isLow (cond h High (cond r Request (cond a Answer Low))))
+not-low : (h r a : Bool) → ((h || r) || a) ≡ not (isLow (kindBy h r a))
 not-low true r a = refl
 not-low false true a = refl
 not-low false false true = refl
@@ -35,11 +31,6 @@ low-by true true true = refl
 low-by true true false = refl
 low-by true false l = refl
 low-by false o l = refl
-
--- a test that is made twice
-pub shared : (t o k : Bool) → ((t && o) && (t && k)) ≡ ((t && o) && k)
-shared true o k = refl
-shared false o k = refl
 
 module _ (c : Chart) where
   pub in-level : (j e : ℕ) → j ≤ 8 → member (getD (c .owned) j 0) e ≡ inLevel (chartOf c) j e
@@ -92,12 +83,13 @@ module _ (c : Chart) where
       ])
 
   -- the kind by the words
-  pub kind-some : (e : ℕ) (h r a : Bool) → e < c .events → inLevel (chartOf c) 0 e ≡ h → member (c .requests) e ≡ r → member (c .answers) e ≡ a
-      → Some (cond h High (cond r Request (cond a Answer Low))) ≡ kindAt (chartOf c) e
+  pub kind-at : (e : ℕ) → e < c .events
+      → kindAt (chartOf c) e
+      ≡ Some (kindBy (inLevel (chartOf c) 0 e) (ltb e (chartOf c .events) && isRequest (chartOf c .kind e)) (ltb e (chartOf c .events) && isAnswer (chartOf c .kind e)))
   unfolding chartOf chartFrom
-  kind-some e h r a lt p q s =
-      rw (← p, ← q, ← s, ← in-level 0 e (omega arith))
-      (sym (ap (λ (b : Bool). cond b (Some (chartOf c .kind e)) None) (lt-ltb e (c .events) lt) ∙ ap Some (kind-is e lt)))
+  kind-at e h =
+      rw (← in-level 0 e (omega arith), ← in-requests e, ← in-answers e)
+      (ap (λ (b : Bool). cond b (Some (chartOf c .kind e)) None) (lt-ltb e (c .events) h) ∙ ap Some (kind-is e h))
 
   pub kind-none : (e : ℕ) → c .events ≤ e → None ≡ kindAt (chartOf c) e
   unfolding chartOf chartFrom

@@ -1,6 +1,6 @@
 -- The chart that 64-bit words hold, one bit for each event. Assumes nothing.
 use mathlib.Core.Path.{_≡_}
-use mathlib.Core.Bool.{Bool, true, false, cond, _&&_}
+use mathlib.Core.Bool.{Bool, cond, _&&_}
 use mathlib.Core.List.{List}
 use Prim.Native.Nat.{ℕ, _≤_}
 use lib.Dec.{ltb}
@@ -16,9 +16,13 @@ use Rattle.model.specs.declared.kind.Kind.the-variants.{High, Low, Request, Ans
 unfoldable pub ownerIn : List ℕ → ℕ → ℕ
 ownerIn owned e = orBound 0 (first 9 (λ j. member (getD owned j 0) e))
 
+-- the kind of an event that is an H event, a request, an answer or none of these
+abbrev pub kindBy : (high request answer : Bool) → Kind
+kindBy high request answer = cond high High (cond request Request (cond answer Answer Low))
+
 -- the kind of event e: High if word 0 has it, Request and Answer by the words of these, else Low
 abbrev pub kindIn : (high requests answers e : ℕ) → Kind
-kindIn high requests answers e = cond (member high e) High (cond (member requests e) Request (cond (member answers e) Answer Low))
+kindIn high requests answers e = kindBy (member high e) (member requests e) (member answers e)
 
 -- the chart that the words hold; beyond the last event the kind is Low, the owner 0 and nothing is uncontrollable
 unfoldable pub chartFrom : (levels events : ℕ) (owned : List ℕ) (requests answers uncontrollable : ℕ) → EventChart

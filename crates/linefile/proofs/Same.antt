@@ -51,10 +51,10 @@ component-same : (chart : EventChart) (E : ℕ) (alphabets : List ℕ) (bodies :
 component-same chart E alphabets bodies c body events words is =
     let g : Gen = genOf (shapeIn (chart .events) body) in
     let same : (b : Bool) → looped g (λ e. not b && member (getD alphabets (levelOf c) 0) e) ≡ cond b g (looped g (alphabetOf chart (levelOf c))) =
-        λ b. elim b as (λ (b : Bool). looped g (λ e. not b && member (getD alphabets (levelOf c) 0) e) ≡ cond b g (looped g (alphabetOf chart (levelOf c)))) [
-          | true ↦ looped-none g
-          | false ↦ ap (looped g) (fun-ext words)
-        ] in
+    λ b. elim b as (λ (b : Bool). looped g (λ e. not b && member (getD alphabets (levelOf c) 0) e) ≡ cond b g (looped g (alphabetOf chart (levelOf c)))) [
+      | true ↦ looped-none g
+      | false ↦ ap (looped g) (fun-ext words)
+    ] in
     rw (events, is) (same (isInterface c))
 
 map-same : (f g : ℕ → Gen) (a n : ℕ) → ((c : ℕ) → a ≤ c → c < a + n → f c ≡ g c) → map f (counting a n) ≡ map g (counting a n)
@@ -70,8 +70,8 @@ pub list-same : (n E : ℕ) (chart : EventChart) (file : List ℕ) (alphabets : 
     listFrom (2 + 3 * n) E alphabets bodies ≡ map (λ c. componentIn chart c (bodyOf (chart .levels) file (suc c))) (counting 0 (components (chart .levels)))
 list-same n E chart file alphabets bodies few levels events words found =
     let each : (c : ℕ) → 0 ≤ c → c < 0 + (2 + 3 * n) → componentFrom E alphabets bodies c ≡ componentIn chart c (bodyOf n file (suc c)) =
-        λ c l u. component-same chart E alphabets bodies c (bodyOf n file (suc c)) events (λ e. words (levelOf c) e (level-small c (omega arith)))
-            (found (c + 1) (omega arith) ∙ ap (bodyOf n file) (add-one c)) in
+    λ c l u. component-same chart E alphabets bodies c (bodyOf n file (suc c)) events (λ e. words (levelOf c) e (level-small c (omega arith)))
+    (found (c + 1) (omega arith) ∙ ap (bodyOf n file) (add-one c)) in
     subst (λ (m : ℕ). listFrom (2 + 3 * n) E alphabets bodies ≡ map (λ c. componentIn chart c (bodyOf m file (suc c))) (counting 0 (components m))) levels
     (map-same (componentFrom E alphabets bodies) (λ c. componentIn chart c (bodyOf n file (suc c))) 0 (2 + 3 * n) each)
 
@@ -88,8 +88,8 @@ unfolding rowsReading chartIn
 rows-sizes n E body origin c h =
     let wrong : ℕ = firstWrong n E body in
     let same : c ≡ chartIn n E body =
-        all-passed (leb (3 * E) (length body)) (leb (length body) (3 * E)) (eqb wrong (3 * E)) (ltb n (lacking (chartIn n E body)))
-        (Contents (origin + length body)) (Contents (origin + 3 * E)) (Event (origin + wrong)) (Level (lacking (chartIn n E body))) (chartIn n E body) c h in
+    all-passed (leb (3 * E) (length body)) (leb (length body) (3 * E)) (eqb wrong (3 * E)) (ltb n (lacking (chartIn n E body)))
+    (Contents (origin + length body)) (Contents (origin + 3 * E)) (Event (origin + wrong)) (Level (lacking (chartIn n E body))) (chartIn n E body) c h in
     (sym (ap (λ (x : EventChart). x .levels) same), sym (ap (λ (x : EventChart). x .events) same))
 
 first-ok : (r : Result (Unit {0}) Fault) (more : Unit {0} → Result (Unit {0}) Fault) → Ok tt ≡ andThen r more → r ≡ Ok tt

@@ -24,7 +24,7 @@ use generators::bank::Bank;
 use generators::generator::Generator;
 use generators::selfloop::Selfloop;
 use generators::selfloop::SelfloopGenerator;
-use makes::MakeGenerator;
+use makes::generator::MakeGenerator;
 use makes::make::Make;
 use model::fault::Fault;
 use model::next::Next;
@@ -79,7 +79,12 @@ impl<'a> FileBank<'a> {
         let contents = Contents::read(file, levels, events)?;
         let chart = Chart::from_rows(header, contents.bodies[0], contents_end(levels) as u16)?;
         read_components(file, &contents, levels, events)?;
-        Ok(FileBank { len: 2 + 3 * levels, events, alphabets: alphabets(&chart), bodies: contents.bodies })
+        Ok(FileBank {
+            len: 2 + 3 * levels,
+            events,
+            alphabets: alphabets(&chart),
+            bodies: contents.bodies,
+        })
     }
 
     // The make of a component; beyond the last body that of no bytes.
@@ -99,7 +104,9 @@ impl<'a> FileBank<'a> {
         if is_interface(component) || level >= 9 {
             EventSet::EMPTY
         } else {
-            EventSet { word: self.alphabets[level] }
+            EventSet {
+                word: self.alphabets[level],
+            }
         }
     }
 
@@ -107,7 +114,10 @@ impl<'a> FileBank<'a> {
     fn component(&self, component: u8) -> Selfloop<Make<'a>>
         ensures { λ r. ⌜ looped (genOf (shape (r .inner))) (member (r .events .word)) ≡ componentFrom (now (self .entry) .events) (now (self .entry) .alphabets) (texts (now (self .entry) .bodies)) component ⌝ }
     {
-        Selfloop { inner: self.make(component), events: self.layer(component) }
+        Selfloop {
+            inner: self.make(component),
+            events: self.layer(component),
+        }
     }
 }
 
@@ -121,11 +131,19 @@ pub impl<'a> Bank for FileBank<'a> as FileBankBank {
     }
 
     fn count(&self, component: u8) -> u16 {
-        if component < self.len { self.component(component).count() } else { 0 }
+        if component < self.len {
+            self.component(component).count()
+        } else {
+            0
+        }
     }
 
     fn initial(&self, component: u8) -> u16 {
-        if component < self.len { self.component(component).initial() } else { 0 }
+        if component < self.len {
+            self.component(component).initial()
+        } else {
+            0
+        }
     }
 
     fn knows(&self, component: u8, event: u8) -> bool {
@@ -137,6 +155,10 @@ pub impl<'a> Bank for FileBank<'a> as FileBankBank {
     }
 
     fn next(&self, component: u8, state: u16, event: u8) -> Next {
-        if component < self.len { self.component(component).next(state, event) } else { Next::Foreign }
+        if component < self.len {
+            self.component(component).next(state, event)
+        } else {
+            Next::Foreign
+        }
     }
 }

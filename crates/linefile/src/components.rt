@@ -12,7 +12,12 @@ use makes::make::Make;
 use model::fault::Fault;
 
 // Reads the bodies in turn, each where the one before it ends.
-pub(crate) fn read_components(file: &[u8], contents: &Contents, levels: u8, events: u8) -> Result<(), Fault>
+pub(crate) fn read_components(
+    file: &[u8],
+    contents: &Contents,
+    levels: u8,
+    events: u8,
+) -> Result<(), Fault>
     requires few { ⌜ levels ≤ 8 ⌝ }
     requires small { ⌜ length (now file) ≤ 60000 ⌝ }
     requires found { ⌜ Found levels (now file) (texts (now contents .bodies)) ⌝ }

@@ -39,7 +39,13 @@ fn number(high: u8, low: u8) -> usize
 }
 
 // The body of a row that stands at `place`: it has to begin at `at`.
-fn body_at<'a>(file: &'a [u8], at: usize, start: usize, size: usize, place: u32) -> Result<&'a [u8], Fault>
+fn body_at<'a>(
+    file: &'a [u8],
+    at: usize,
+    start: usize,
+    size: usize,
+    place: u32,
+) -> Result<&'a [u8], Fault>
     requires { ⌜ at ≤ length (now file) ⌝ ∗ ⌜ place < 1000 ⌝ }
     ensures { λ r. ⌜ meant (λ b. now b) r ≡ provided (eqb start at) (ContentsFault place) (provided (leb (at + size) (length (now (file .entry)))) (ContentsFault (place + 2)) (Ok (take size (drop at (now (file .entry)))))) ⌝ }
 {
@@ -84,7 +90,9 @@ impl<'a> Contents<'a> {
         ensures found { λ r. ⌜ made r (λ c. Found levels (now (file .entry)) (texts (c .bodies)) × (length (c .bodies) ≡ 27)) ⌝ }
     {
         if file.len() < contents_end(levels) {
-            return Err(Fault::Contents { place: file.len() as u32 });
+            return Err(Fault::Contents {
+                place: file.len() as u32,
+            });
         }
         let Laid { bodies, end } = Laid::read(file, levels)?;
         if bodies[0].len() != 3 * usize::from(events) {

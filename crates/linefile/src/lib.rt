@@ -1,5 +1,5 @@
 // The line file: a chart of events, and the bodies of the line's components.
-mod contents;
 pub mod bank;
 pub mod chart;
 mod components;
+mod contents;

@@ -1,22 +1,21 @@
 -- Where a body departs from its make. Assumes nothing.
-use mathlib.Core.Path.{_≡_, refl, sym, ap, subst, _∙_}
+use mathlib.Core.Path.{_≡_, sym, ap, subst, _∙_}
 use mathlib.Core.List.{List}
-use mathlib.Core.Bool.{Bool, true, false, cond, not, _&&_, _||_}
-use mathlib.Core.Option.{none, some}
-use mathlib.Core.Logic.{_⊎_, inl, inr, ⊎-elim}
-use Prim.Native.Nat.{ℕ, _+_, _-_, _*_, _%_, _<_, _≤_}
+use mathlib.Core.Bool.{Bool, true, false, not}
+use mathlib.Core.Logic.{_⊎_, inl, inr}
+use Prim.Native.Nat.{ℕ, _+_, _*_, _<_, _≤_}
 use native.Mathlib.Nat.{mul-le-mul}
 use native.Mathlib.Omega.{arith}
 use lib.ListN.{length, getD}
-use lib.Dec.{eqb, ltb, leb}
+use lib.Dec.{eqb}
 use Rattle.std.specs.declared.option.Option.{Option}
 use Rattle.std.specs.declared.result.Result.the-variants.{Ok, Err}
 use Rattle.std.proofs.shelf.Tests.{eq-eqb, ne-eqb, eqb-true, le-ltb, and-parts, cases-bool, cases-eq, cases-lt, not-true, not-false}
-use Rattle.model.specs.Numbers.{all, first}
+use Rattle.model.specs.Numbers.{all}
 use Rattle.model.specs.Readings.{firstOff, orBound}
 use Rattle.model.specs.declared.fault.Fault.the-variants.{Body}
-use Rattle.model.proofs.Finds.{IsFirst, first-or, all-from, all-at, never}
-use Rattle.makes.specs.Shapes.{Shape, shapeIn}
+use Rattle.model.proofs.Finds.{first-or, all-from, all-at, never}
+use Rattle.makes.specs.Shapes.{Shape, shapeIn, tableIn, counterIn, stockIn}
 use Rattle.makes.specs.Bodies.{bodyFits, bodySize, bodyReading, departure, isWhole, tableFits, counterFits, stockFits}
 
 pub record OffAt (n : ℕ) (p : ℕ → Bool) (i : ℕ) : Type 0 where
@@ -30,15 +29,15 @@ unfolding firstOff
 off-at n p =
     elim (first-or n (λ k. not (p k))) [
       | inl r ↦ subst (λ i. OffAt n p i) (sym (ap (orBound n) (r .1))) (record {
-          within = omega (arith, r .2 .within);
-          before = λ k h. not-false (p k) (r .2 .before k h);
-          off = λ h. not-true (p (r .0)) (r .2 .holds);
-        })
+        within = omega (arith, r .2 .within);
+        before = λ k h. not-false (p k) (r .2 .before k h);
+        off = λ h. not-true (p (r .0)) (r .2 .holds);
+      })
       | inr r ↦ subst (λ i. OffAt n p i) (sym (ap (orBound n) (r .0))) (record {
-          within = omega arith;
-          before = λ k h. not-false (p k) (r .1 k h);
-          off = λ h. absurd (omega arith);
-        })
+        within = omega arith;
+        before = λ k h. not-false (p k) (r .1 k h);
+        off = λ h. absurd (omega arith);
+      })
     ]
 
 module _ (E : ℕ) (body : List ℕ) where
@@ -51,9 +50,14 @@ module _ (E : ℕ) (body : List ℕ) where
   unfolding bodyFits
   fits-counter i h = rw (ne-eqb (getD body 0 0) 84 (λ e. omega arith), eq-eqb (getD body 0 0) 67 h)
 
-  pub fits-stock : (i : ℕ) → (getD body 0 0 ≡ 84 → ⊥) → (getD body 0 0 ≡ 67 → ⊥) → bodyFits E body i ≡ stockFits E body i
+  pub fits-stock : (i : ℕ) → getD body 0 0 ≡ 73 → bodyFits E body i ≡ stockFits E body i
   unfolding bodyFits
-  fits-stock i t c = rw (ne-eqb (getD body 0 0) 84 t, ne-eqb (getD body 0 0) 67 c)
+  fits-stock i h =
+      rw (ne-eqb (getD body 0 0) 84 (λ e. omega arith), ne-eqb (getD body 0 0) 67 (λ e. omega arith), eq-eqb (getD body 0 0) 73 h)
+
+  fits-none : (i : ℕ) → (getD body 0 0 ≡ 84 → ⊥) → (getD body 0 0 ≡ 67 → ⊥) → (getD body 0 0 ≡ 73 → ⊥) → bodyFits E body i ≡ false
+  unfolding bodyFits
+  fits-none i t c s = rw (ne-eqb (getD body 0 0) 84 t, ne-eqb (getD body 0 0) 67 c, ne-eqb (getD body 0 0) 73 s)
 
   -- the size by the letter
   pub size-table : getD body 0 0 ≡ 84 → bodySize E body ≡ 3 + E + getD body 1 0 + getD body 1 0 * E
@@ -65,11 +69,30 @@ module _ (E : ℕ) (body : List ℕ) where
   pub size-stock : (getD body 0 0 ≡ 84 → ⊥) → (getD body 0 0 ≡ 67 → ⊥) → bodySize E body ≡ 6
   size-stock t c = rw (ne-eqb (getD body 0 0) 84 t, ne-eqb (getD body 0 0) 67 c)
 
+  -- the parts by the letter
+  pub shape-table : getD body 0 0 ≡ 84 → shapeIn E body ≡ tableIn E body
+  unfolding shapeIn
+  shape-table h = rw (eq-eqb (getD body 0 0) 84 h)
+
+  pub shape-counter : getD body 0 0 ≡ 67 → shapeIn E body ≡ counterIn body
+  unfolding shapeIn
+  shape-counter h = rw (ne-eqb (getD body 0 0) 84 (λ e. omega arith), eq-eqb (getD body 0 0) 67 h)
+
+  pub shape-stock : (getD body 0 0 ≡ 84 → ⊥) → (getD body 0 0 ≡ 67 → ⊥) → shapeIn E body ≡ stockIn body
+  unfolding shapeIn
+  shape-stock t c = rw (ne-eqb (getD body 0 0) 84 t, ne-eqb (getD body 0 0) 67 c)
+
   -- no byte fits past the make's size
   table-past : (i : ℕ) → 3 + E + getD body 1 0 + getD body 1 0 * E ≤ i → tableFits E body i ≡ false
   table-past i h =
-      rw (ne-eqb i 0 (λ e. omega arith), ne-eqb i 1 (λ e. omega arith), ne-eqb i 2 (λ e. omega arith), le-ltb i (3 + E) (omega arith),
-      le-ltb i (3 + E + getD body 1 0) (omega arith), le-ltb i (3 + E + getD body 1 0 + getD body 1 0 * E) h)
+      rw (
+        ne-eqb i 0 (λ e. omega arith),
+        ne-eqb i 1 (λ e. omega arith),
+        ne-eqb i 2 (λ e. omega arith),
+        le-ltb i (3 + E) (omega arith),
+        le-ltb i (3 + E + getD body 1 0) (omega arith),
+        le-ltb i (3 + E + getD body 1 0 + getD body 1 0 * E) h,
+      )
 
   counter-past : (i : ℕ) → 2 + E ≤ i → counterFits E body i ≡ false
   counter-past i h = rw (ne-eqb i 0 (λ e. omega arith), ne-eqb i 1 (λ e. omega arith), le-ltb i (2 + E) h)
@@ -83,7 +106,10 @@ module _ (E : ℕ) (body : List ℕ) where
         | inl t ↦ fits-table i t ∙ table-past i (omega (arith, size-table t))
         | inr t ↦ elim (cases-eq (getD body 0 0) 67) [
           | inl c ↦ fits-counter i c ∙ counter-past i (omega (arith, size-counter c))
-          | inr c ↦ fits-stock i t c ∙ stock-past i (omega (arith, size-stock t c))
+          | inr c ↦ elim (cases-eq (getD body 0 0) 73) [
+            | inl s ↦ fits-stock i s ∙ stock-past i (omega (arith, size-stock t c))
+            | inr s ↦ fits-none i t c s
+          ]
         ]
       ]
 
@@ -118,14 +144,14 @@ module _ (E : ℕ) (body : List ℕ) where
     unfolding bodyReading
     departs how =
         let broken : isWhole E body ≡ false =
-            elim (cases-bool (isWhole E body)) [
-              | inl w ↦
-                  let p = and-parts (all (length body) (bodyFits E body)) (eqb (length body) (bodySize E body)) w in
-                  let size = eqb-true (length body) (bodySize E body) (p .1) in
-                  let short : departure E body < length body = elim how [ inl h ↦ h | inr h ↦ omega arith ] in
-                  never (all-at (length body) (bodyFits E body) (p .0) (departure E body) short) (off .off short)
-              | inr w ↦ w
-            ] in
+        elim (cases-bool (isWhole E body)) [
+          | inl w ↦
+              let p = and-parts (all (length body) (bodyFits E body)) (eqb (length body) (bodySize E body)) w in
+              let size = eqb-true (length body) (bodySize E body) (p .1) in
+              let short : departure E body < length body = elim how [ inl h ↦ h | inr h ↦ omega arith ] in
+              never (all-at (length body) (bodyFits E body) (p .0) (departure E body) short) (off .off short)
+          | inr w ↦ w
+        ] in
         rw broken
 
     pub stands : length body ≤ departure E body → bodySize E body ≤ departure E body → Ok (shapeIn E body) ≡ bodyReading component origin E body

@@ -1,14 +1,14 @@
 -- The parts of a body. Assumes nothing.
-use mathlib.Core.Path.{_≡_, refl, sym, ap, _∙_}
-use mathlib.Core.List.{List, [], _∷_}
-use mathlib.Core.Logic.{_⊎_, inl, inr, ⊎-elim}
-use Prim.Native.Nat.{ℕ, _+_, _-_, _*_, _<_, _≤_, min}
+use mathlib.Core.Path.{_≡_, sym, ap, _∙_}
+use mathlib.Core.List.{List, []}
+use mathlib.Core.Logic.{⊎-elim}
+use Prim.Native.Nat.{ℕ, _+_, _*_, _<_, _≤_, min}
 use native.Mathlib.Omega.{arith}
 use lib.ListN.{length, getD, take, drop}
 use native.Mathlib.Nat.{add-assoc}
 use Rattle.std.proofs.shelf.Lists.{take-all, drop-all, drop-drop, getD-default, getD-past}
 use Rattle.std.proofs.shelf.Tests.{cases-lt}
-use Rattle.makes.specs.Shapes.{Shape, table, tableIn}
+use Rattle.makes.specs.Shapes.{table, tableIn}
 
 -- a split at a place past the end is one at the end
 pub take-min : (n : ℕ) (xs : List ℕ) (m : ℕ) → m ≡ min n (length xs) → take m xs ≡ take n xs

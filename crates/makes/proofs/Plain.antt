@@ -1,30 +1,26 @@
 -- The meaning of a body that was read is what its bytes say. Assumes nothing.
 use mathlib.Core.Path.{_≡_, refl, sym, ap, subst, _∙_}
 use mathlib.Core.List.{List, [], _∷_}
-use mathlib.Core.Bool.{Bool, true, false, cond, not, _&&_, _||_}
+use mathlib.Core.Bool.{Bool, true, false, not, _&&_, _||_}
 use mathlib.Core.Logic.{_⊎_, inl, inr, ⊎-elim, _≢_}
-use Prim.Native.Nat.{ℕ, zero, suc, _+_, _-_, _*_, _%_, _<_, _≤_}
+use Prim.Native.Nat.{ℕ, _+_, _-_, _*_, _%_, _<_, _≤_}
 use native.Mathlib.Nat.{mul-comm}
 use native.Mathlib.Omega.{arith}
 use lib.ListN.{length, getD, take, drop}
 use lib.Dec.{eqb, ltb, leb}
-use Rattle.std.specs.declared.option.Option.{Option}
-use Rattle.std.specs.declared.result.Result.the-variants.{Ok}
 use Rattle.std.proofs.shelf.Ways.{tells}
 use Rattle.std.proofs.shelf.Lists.{getD-take, getD-drop, getD-past, getD-default, length-take-le, length-drop}
-use Rattle.std.proofs.shelf.Tests.{eq-eqb, ne-eqb, eqb-true, lt-ltb, le-ltb, ltb-true, leb-true, and-parts, and-from, and-right, or-cases, or-left, or-right, not-true, cases-bool, cases-eq, cases-lt}
+use Rattle.std.proofs.shelf.Tests.{eq-eqb, ne-eqb, eqb-true, lt-ltb, le-ltb, ltb-true, leb-true, and-parts, and-from, and-right, or-cases, or-left, or-right, not-true, cases-eq}
 use Rattle.std.proofs.shelf.Bits.{mul-add-lt, mod-mul-add}
-use Rattle.model.specs.Generators.{Gen}
-use Rattle.model.specs.declared.next.Next.{Next}
-use Rattle.model.specs.declared.next.Next.the-variants.{Foreign, Forbidden, To}
+use Rattle.model.specs.declared.next.Next.the-variants.{Forbidden, To}
 use Rattle.model.specs.Numbers.{any}
 use Rattle.model.proofs.Finds.{any-from, never}
-use Rattle.makes.specs.Letters.{isTable, isCounter, isStock, isNot, isKnown, isMark, isUp, isDown, isStay, isStep, isNone}
-use Rattle.makes.specs.Shapes.{Shape, table, counter, stock, tableIn, counterIn, stockIn, shapeIn}
-use Rattle.makes.specs.Bodies.{bodyReading, bodySize, tableFits, counterFits, stockFits, columnFits, targetFits}
-use Rattle.makes.specs.Meanings.{genOf, counted, reply, tableInitial, tableKnows, tableMarks, tableTarget, tableNext, counterKnows, stepPermitted, stepped, counterNext, isForth, isBack, stockKnows, stockNext}
+use Rattle.makes.specs.Letters.{isNot, isKnown, isMark, isStep, isNone}
+use Rattle.makes.specs.Shapes.{Shape, stock, tableIn, counterIn, stockIn}
+use Rattle.makes.specs.Bodies.{tableFits, counterFits, stockFits, columnFits, targetFits}
+use Rattle.makes.specs.Meanings.{genOf, counted, reply, tableInitial, tableKnows, tableMarks, tableTarget, tableNext, counterKnows, stepPermitted, stepped, counterNext, stockKnows, stockNext}
 use Rattle.makes.specs.Laws.{TablePlain, CounterPlain, StockPlain, Tables-plain, Counters-plain, Stocks-plain, targetByte}
-use Rattle.makes.proofs.Departures.{fits-table, fits-counter, fits-stock, size-table, size-counter, size-stock, read-shape, read-size, read-fits}
+use Rattle.makes.proofs.Departures.{fits-table, fits-counter, fits-stock, size-table, size-counter, size-stock, shape-table, shape-counter, shape-stock, read-shape, read-size, read-fits}
 
 -- a byte of a part
 part-at : (m n : ℕ) (body : List ℕ) (k : ℕ) → k < n → getD (take n (drop m body)) k 0 ≡ getD body (m + k) 0
@@ -91,16 +87,22 @@ module _ (E : ℕ) (body : List ℕ) (few : E ≤ 64) (size : length body ≡ 3 
         let d : 3 + E + getD body 1 0 + (s * E + e) - (3 + E + getD body 1 0) ≡ s * E + e = omega arith in
         let m : (s * E + e) % E ≡ e = mod-mul-add s E e event in
         let g : (ltb (3 + E + getD body 1 0 + (s * E + e)) (3 + E + getD body 1 0 + getD body 1 0 * E) && targetFits (getD body 1 0) (getD body (3 + e) 0) (targetByte E body s e)) ≡ true =
-            rw (ne-eqb (3 + E + getD body 1 0 + (s * E + e)) 0 (λ q. omega arith), ne-eqb (3 + E + getD body 1 0 + (s * E + e)) 1 (λ q. omega arith),
-            ne-eqb (3 + E + getD body 1 0 + (s * E + e)) 2 (λ q. omega arith), le-ltb (3 + E + getD body 1 0 + (s * E + e)) (3 + E) (omega arith),
-            le-ltb (3 + E + getD body 1 0 + (s * E + e)) (3 + E + getD body 1 0) (omega arith), d, m) at f in
+        rw (
+          ne-eqb (3 + E + getD body 1 0 + (s * E + e)) 0 (λ q. omega arith),
+          ne-eqb (3 + E + getD body 1 0 + (s * E + e)) 1 (λ q. omega arith),
+          ne-eqb (3 + E + getD body 1 0 + (s * E + e)) 2 (λ q. omega arith),
+          le-ltb (3 + E + getD body 1 0 + (s * E + e)) (3 + E) (omega arith),
+          le-ltb (3 + E + getD body 1 0 + (s * E + e)) (3 + E + getD body 1 0) (omega arith),
+          d,
+          m,
+        ) at f in
         and-parts _ _ g .1
 
     moves-is : targetByte E body s e ≢ 255 → tableNext (counted (getD body 1 0)) letters targets s e ≡ To (targetByte E body s e)
     moves-is some =
         let p : (isKnown (getD body (3 + e) 0) && ltb (targetByte E body s e) (getD body 1 0)) ≡ true =
-            ⊎-elim (λ q. absurd (some (eqb-true (targetByte E body s e) 255 q))) (λ q. q)
-            (or-cases (isNone (targetByte E body s e)) (isKnown (getD body (3 + e) 0) && ltb (targetByte E body s e) (getD body 1 0)) target-fits) in
+        ⊎-elim (λ q. absurd (some (eqb-true (targetByte E body s e) 255 q))) (λ q. q)
+        (or-cases (isNone (targetByte E body s e)) (isKnown (getD body (3 + e) 0) && ltb (targetByte E body s e) (getD body 1 0)) target-fits) in
         let k = and-parts (isKnown (getD body (3 + e) 0)) (ltb (targetByte E body s e) (getD body 1 0)) p in
         rw (target-is, count-is) (permitted _ _ _ (knows-is e event ∙ k .0) (and-from _ _ (lt-ltb s (getD body 1 0) state) (k .1)))
 
@@ -124,7 +126,7 @@ module _ (E : ℕ) (body : List ℕ) (few : E ≤ 64) (size : length body ≡ 3 
 pub tables-plain : Tables-plain
 tables-plain component origin E body s few read letter =
     let t = eqb-true (getD body 0 0) 84 letter in
-    let shape-is : s ≡ tableIn E body = read-shape component origin E body s read ∙ rw t in
+    let shape-is : s ≡ tableIn E body = read-shape component origin E body s read ∙ shape-table E body t in
     let size = read-size component origin E body s read in
     rw shape-is
     (table-plain E body few (size ∙ size-table E body t)
@@ -152,7 +154,7 @@ module _ (E : ℕ) (body : List ℕ) (few : E ≤ 64) (size : length body ≡ 2 
   step-fits e h =
       let f = fits (2 + e) (omega arith) in
       let g : (ltb (2 + e) (2 + E) && (isNot (getD body (2 + e) 0) || isStep (getD body (2 + e) 0))) ≡ true =
-          rw (ne-eqb (2 + e) 0 (λ q. omega arith), ne-eqb (2 + e) 1 (λ q. omega arith)) at f in
+      rw (ne-eqb (2 + e) 0 (λ q. omega arith), ne-eqb (2 + e) 1 (λ q. omega arith)) at f in
       and-parts (ltb (2 + e) (2 + E)) (isNot (getD body (2 + e) 0) || isStep (getD body (2 + e) 0)) g .1
 
   step-others : (e : ℕ) → E ≤ e → counterKnows (drop 2 body) e ≡ false
@@ -184,7 +186,7 @@ module _ (E : ℕ) (body : List ℕ) (few : E ≤ 64) (size : length body ≡ 2 
 pub counters-plain : Counters-plain
 counters-plain component origin E body s few read letter =
     let c = eqb-true (getD body 0 0) 67 letter in
-    let shape-is : s ≡ counterIn body = read-shape component origin E body s read ∙ rw c in
+    let shape-is : s ≡ counterIn body = read-shape component origin E body s read ∙ shape-counter E body c in
     let size = read-size component origin E body s read in
     rw shape-is
     (counter-plain E body few (size ∙ size-counter E body c)
@@ -212,8 +214,8 @@ module _ (E : ℕ) (body : List ℕ) (few : E ≤ 64) (size : length body ≡ 6)
       let g : (ltb (2 + k) 6 && columnFits E body (2 + k)) ≡ true = rw (ne-eqb (2 + k) 0 (λ q. omega arith), ne-eqb (2 + k) 1 (λ q. omega arith)) at f in
       let early : ℕ → Bool = λ j. eqb (getD body (2 + j) 0) (getD body (2 + k) 0) in
       let p : (ltb (getD body (2 + k) 0) E && not (any (2 + k - 2) early)) ≡ true =
-          ⊎-elim (λ q. absurd (some (eqb-true (getD body (2 + k) 0) 255 q))) (λ q. q)
-          (or-cases (isNone (getD body (2 + k) 0)) (ltb (getD body (2 + k) 0) E && not (any (2 + k - 2) early)) (and-parts (ltb (2 + k) 6) (columnFits E body (2 + k)) g .1)) in
+      ⊎-elim (λ q. absurd (some (eqb-true (getD body (2 + k) 0) 255 q))) (λ q. q)
+      (or-cases (isNone (getD body (2 + k) 0)) (ltb (getD body (2 + k) 0) E && not (any (2 + k - 2) early)) (and-parts (ltb (2 + k) 6) (columnFits E body (2 + k)) g .1)) in
       let q = and-parts (ltb (getD body (2 + k) 0) E) (not (any (2 + k - 2) early)) p in
       let last : 2 + k - 2 ≡ k = omega arith in
       let none = not-true (any (2 + k - 2) early) (q .1) in
@@ -260,8 +262,12 @@ module _ (E : ℕ) (body : List ℕ) (few : E ≤ 64) (size : length body ≡ 6)
   none-at : (e : ℕ) → ((k : ℕ) → k < 4 → getD body (2 + k) 0 ≢ e) → stockKnows columns e ≡ false
   unfolding columns
   none-at e off =
-      rw (ne-eqb e (getD body 2 0) (λ q. off 0 (omega arith) (sym q)), ne-eqb e (getD body 3 0) (λ q. off 1 (omega arith) (sym q)),
-      ne-eqb e (getD body 4 0) (λ q. off 2 (omega arith) (sym q)), ne-eqb e (getD body 5 0) (λ q. off 3 (omega arith) (sym q)))
+      rw (
+        ne-eqb e (getD body 2 0) (λ q. off 0 (omega arith) (sym q)),
+        ne-eqb e (getD body 3 0) (λ q. off 1 (omega arith) (sym q)),
+        ne-eqb e (getD body 4 0) (λ q. off 2 (omega arith) (sym q)),
+        ne-eqb e (getD body 5 0) (λ q. off 3 (omega arith) (sym q)),
+      )
       (and-right (ltb e 64) false refl)
 
   stock-plain : StockPlain E body (genOf (stockIn body))
@@ -281,8 +287,8 @@ stocks-plain component origin E body s few read letter =
     let i = eqb-true (getD body 0 0) 73 letter in
     let not-t : getD body 0 0 ≢ 84 = λ e. omega arith in
     let not-c : getD body 0 0 ≢ 67 = λ e. omega arith in
-    let shape-is : s ≡ stockIn body = read-shape component origin E body s read ∙ rw i in
+    let shape-is : s ≡ stockIn body = read-shape component origin E body s read ∙ shape-stock E body not-t not-c in
     let size = read-size component origin E body s read in
     rw shape-is
     (stock-plain E body few (size ∙ size-stock E body not-t not-c)
-    (λ k h. sym (fits-stock E body k not-t not-c) ∙ read-fits component origin E body s read k (omega arith)))
+    (λ k h. sym (fits-stock E body k i) ∙ read-fits component origin E body s read k (omega arith)))

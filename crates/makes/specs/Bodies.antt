@@ -6,9 +6,9 @@ use lib.ListN.{length, getD}
 use lib.Dec.{eqb, ltb, leb}
 use Rattle.std.specs.declared.option.Option.{Option}
 use Rattle.std.specs.declared.result.Result.{Result}
-use Rattle.std.specs.declared.result.Result.the-variants.{Ok, Err}
+use Rattle.std.specs.declared.result.Result.the-variants.{Ok}
 use Rattle.model.specs.Numbers.{any, all}
-use Rattle.model.specs.Readings.{firstOff}
+use Rattle.model.specs.Readings.{firstOff, provided}
 use Rattle.model.specs.declared.fault.Fault.{Fault}
 use Rattle.model.specs.declared.fault.Fault.the-variants.{Body}
 use Rattle.makes.specs.Letters.{isTable, isCounter, isStock, isNot, isKnown, isMark, isStep, isNone}
@@ -49,12 +49,13 @@ stockFits E body i =
     let b : ℕ = getD body i 0 in
     cond (eqb i 0) (isStock b) (cond (eqb i 1) (eqb b 0) (ltb i 6 && columnFits E body i))
 
--- the byte at place i is one that the body's make may have there; a letter of no make is a stock's, and does not fit
+-- the byte at place i is one that the body's make may have there; with a letter of no make none is
 unfoldable pub bodyFits : (E : ℕ) → List ℕ → ℕ → Bool
 bodyFits E body i =
-    cond (isTable (getD body 0 0)) (tableFits E body i) (cond (isCounter (getD body 0 0)) (counterFits E body i) (stockFits E body i))
+    let m : ℕ = getD body 0 0 in
+    cond (isTable m) (tableFits E body i) (cond (isCounter m) (counterFits E body i) (isStock m && stockFits E body i))
 
--- how many bytes a body of its make has
+-- how many bytes a body of its make has; with a letter of no make, as many as a stock's
 abbrev pub bodySize : (E : ℕ) → List ℕ → ℕ
 bodySize E body =
     let n : ℕ = getD body 1 0 in
@@ -70,4 +71,4 @@ isWhole E body = all (length body) (bodyFits E body) && eqb (length body) (bodyS
 
 -- the parts of the body of a component, which begins at a place of its file; or the fault, with the place where it departs
 unfoldable pub bodyReading : (component : Option ℕ) (origin E : ℕ) → List ℕ → Result Shape Fault
-bodyReading component origin E body = cond (isWhole E body) (Ok (shapeIn E body)) (Err (Body component (origin + departure E body)))
+bodyReading component origin E body = provided (isWhole E body) (Body component (origin + departure E body)) (Ok (shapeIn E body))

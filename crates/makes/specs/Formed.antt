@@ -1,15 +1,13 @@
 -- Every make means a well-formed generator. Assumes nothing.
 use mathlib.Core.Path.{_≡_, refl}
-use mathlib.Core.List.{List}
 use mathlib.Core.Bool.{Bool, true, false, cond, _&&_, _||_}
-use mathlib.Core.Logic.{_⊎_, inl, inr, ⊎-elim}
-use Prim.Native.Nat.{ℕ, _+_, _-_, _*_, _<_, _≤_, min, max}
+use mathlib.Core.Logic.{⊎-elim}
+use Prim.Native.Nat.{ℕ, _+_, _-_, _<_, _≤_}
 use native.Mathlib.Omega.{arith}
 use lib.Dec.{ltb, eqb}
 use lib.ListN.{getD}
 use Rattle.std.proofs.shelf.Tests.{ltb-true, eqb-true, and-parts, or-cases, cond-both}
-use Rattle.model.specs.Generators.{Gen, WellFormed}
-use Rattle.model.specs.declared.next.Next.{Next}
+use Rattle.model.specs.Generators.{WellFormed}
 use Rattle.model.specs.declared.next.Next.the-variants.{Foreign, Forbidden, To}
 use Rattle.makes.specs.Letters.{isKnown, isMark, isUp, isDown, isStep}
 use Rattle.makes.specs.Shapes.{Shape, table, counter, stock}

@@ -44,7 +44,7 @@ module _ (E : ℕ) (body : List ℕ) where
   columnByte k = getD body (2 + k) 0
 
   module _ (g : Gen) where
-    -- g is what a table's bytes say
+    -- g is what a table's bytes say; no event but those with a letter is known
     pub record TablePlain : Type 0 where
       pub count : g .count ≡ countByte
       pub initial : g .initial ≡ initialByte
@@ -54,7 +54,7 @@ module _ (E : ℕ) (body : List ℕ) where
       pub moves : (s e : ℕ) → s < countByte → e < E → targetByte s e ≢ 255 → g .next s e ≡ To (targetByte s e)
       pub stops : (s e : ℕ) → s < countByte → e < E → targetByte s e ≡ 255 → g .knows e ≡ true → g .next s e ≡ Forbidden
 
-    -- g is what a counter's bytes say
+    -- g is what a counter's bytes say: it is full at the capacity, and empty at 0
     pub record CounterPlain : Type 0 where
       pub count : g .count ≡ capacityByte + 1
       pub initial : g .initial ≡ 0
@@ -67,7 +67,7 @@ module _ (E : ℕ) (body : List ℕ) where
       pub empty : (e : ℕ) → e < E → isDown (stepByte e) ≡ true → g .next 0 e ≡ Forbidden
       pub stays : (s e : ℕ) → e < E → isStay (stepByte e) ≡ true → s ≤ capacityByte → g .next s e ≡ To s
 
-    -- g is what a stock's bytes say
+    -- g is what a stock's bytes say: columns 0 and 1 lead forth, columns 2 and 3 back, and no other event is known
     pub record StockPlain : Type 0 where
       pub count : g .count ≡ 2
       pub initial : g .initial ≡ 0

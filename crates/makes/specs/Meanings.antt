@@ -10,8 +10,8 @@ use Rattle.model.specs.declared.next.Next.the-variants.{Foreign, Forbidden, To}
 use Rattle.makes.specs.Letters.{isKnown, isMark, isUp, isDown, isStep}
 use Rattle.makes.specs.Shapes.{Shape, table, counter, stock}
 
--- Every shape means a generator, also one that no body gives. For those alone there are guards: a count is from 1 to 4,096,
--- an initial state and a target are below it, and only an event below 64 is known.
+-- Every shape means a generator, also one that no body gives. For those alone there are guards: the count is kept from 1 to 4,096,
+-- the initial state below it, and the known events below 64.
 
 abbrev pub counted : ℕ → ℕ
 counted n = max 1 (min n 4096)
@@ -20,7 +20,8 @@ counted n = max 1 (min n 4096)
 abbrev pub reply : (known permitted : Bool) (t : ℕ) → Next
 reply known permitted t = cond known (cond permitted (To t) Forbidden) Foreign
 
--- a table of n states has a letter for each event, a mark for each state, and a target for each state and event, row by row
+-- a table of n states has a letter for each event, a mark for each state, and a target for each state and event, row by row;
+-- a target that is no state, as 255, is no move
 abbrev pub tableInitial : (n i : ℕ) → ℕ
 tableInitial n i = cond (ltb i n) i 0
 

@@ -34,5 +34,5 @@ abbrev pub stockIn : List ℕ → Shape
 stockIn body = stock (getD body 2 255 ∷ (getD body 3 255 ∷ (getD body 4 255 ∷ (getD body 5 255 ∷ []))))
 
 -- by the letter; one of no make is a stock's
-abbrev pub shapeIn : (E : ℕ) → List ℕ → Shape
+unfoldable pub shapeIn : (E : ℕ) → List ℕ → Shape
 shapeIn E body = cond (isTable (getD body 0 0)) (tableIn E body) (cond (isCounter (getD body 0 0)) (counterIn body) (stockIn body))

@@ -6,7 +6,11 @@ ghost use lib.ListN.{getD, take, drop};
 pub(crate) fn byte_or(bytes: &[u8], place: usize, other: u8) -> u8
     ensures { λ r. ⌜ r ≡ getD (now (bytes .entry)) place other ⌝ }
 {
-    if place < bytes.len() { bytes[place] } else { other }
+    if place < bytes.len() {
+        bytes[place]
+    } else {
+        other
+    }
 }
 
 // The first `n` bytes, or all where there are fewer, and the others.

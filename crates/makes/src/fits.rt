@@ -1,15 +1,14 @@
 // Which byte may stand at which place of a body.
 ghost use mathlib.Core.Path.{_≡_};
-ghost use Prim.Native.Nat.{ℕ, _<_, _≤_};
-ghost use lib.ListN.{length, getD};
+ghost use mathlib.Core.Bool.{_||_};
+ghost use Prim.Native.Nat.{_<_, _≤_};
+ghost use lib.ListN.{length};
 ghost use Rattle.makes.specs.Letters.{isNot, isKnown, isMark, isStep};
 ghost use Rattle.makes.specs.Bodies.{targetFits, columnFits, tableFits, counterFits, stockFits, bodyFits, bodySize};
 ghost use Rattle.makes.specs.Bodies.{departure as departs};
-ghost use mathlib.Core.Bool.{_||_};
-
 use crate::bytes::byte_or;
-
-const NONE: u8 = 255;
+use crate::make::NO_EVENT;
+use crate::make::NO_MOVE;
 
 fn known_letter(byte: u8) -> bool
     ensures { λ r. ⌜ r ≡ (isKnown byte || isNot byte) ⌝ }
@@ -43,8 +42,8 @@ fn target_fits(count: u8, letter: u8, target: u8) -> bool
     ensures { λ r. ⌜ r ≡ targetFits count letter target ⌝ }
 {
     match letter as char {
-        '+' => target == NONE || target < count,
-        _ => target == NONE,
+        '+' => target == NO_MOVE || target < count,
+        _ => target == NO_MOVE,
     }
 }
 
@@ -54,7 +53,7 @@ fn column_fits(body: &[u8], events: u8, place: usize) -> bool
     ensures { λ r. ⌜ r ≡ columnFits events (now (body .entry)) place ⌝ }
 {
     let event = body[place];
-    event == NONE || event < events && !body[2..place].contains(&event)
+    event == NO_EVENT || event < events && !body[2..place].contains(&event)
 }
 
 fn table_fits(body: &[u8], events: u8, place: usize) -> bool
@@ -72,7 +71,11 @@ fn table_fits(body: &[u8], events: u8, place: usize) -> bool
         2 => byte < count,
         _ if place < marks => known_letter(byte),
         _ if place < targets => mark_letter(byte),
-        _ if place < targets + count as usize * width => target_fits(count, body[3 + (place - targets) % width], byte),
+        _ if place < targets + count as usize * width => target_fits(
+            count,
+            body[3 + (place - targets) % width],
+            byte,
+        ),
         _ => false,
     }
 }
@@ -108,7 +111,8 @@ fn byte_fits(body: &[u8], events: u8, place: usize) -> bool
     match body[0] as char {
         'T' => table_fits(body, events, place),
         'C' => counter_fits(body, events, place),
-        _ => stock_fits(body, events, place),
+        'I' => stock_fits(body, events, place),
+        _ => false,
     }
 }
 

@@ -6,12 +6,11 @@ ghost use Rattle.makes.specs.Meanings.{genOf, counted, tableInitial, tableKnow
 ghost use Rattle.makes.specs.Formed.{formed as well-formed};
 use crate::bytes::byte_or;
 use crate::make::Make;
+use crate::make::NO_MOVE;
 use generators::generator::Generator;
 use model::next::Next;
 
-const NO_MOVE: u8 = 255;
-
-// The events that a generator may know.
+// A generator knows only events below this.
 const EVENTS: u8 = 64;
 
 // The count of a table; it is not 0 where the table was read.
@@ -24,7 +23,11 @@ fn table_count(count: u8) -> u16
 fn table_initial(count: u8, initial: u8) -> u16
     ensures { λ r. ⌜ r ≡ tableInitial (counted count) initial ⌝ }
 {
-    if initial < count { u16::from(initial) } else { 0 }
+    if initial < count {
+        u16::from(initial)
+    } else {
+        0
+    }
 }
 
 fn table_knows(letters: &[u8], event: u8) -> bool
@@ -50,7 +53,11 @@ fn target(letters: &[u8], targets: &[u8], state: u16, event: u8) -> u8
     ensures { λ r. ⌜ r ≡ tableTarget (now (letters .entry)) (now (targets .entry)) state event ⌝ }
 {
     let place = u128::from(state) * letters.len() as u128 + u128::from(event);
-    if place < targets.len() as u128 { targets[place as usize] } else { NO_MOVE }
+    if place < targets.len() as u128 {
+        targets[place as usize]
+    } else {
+        NO_MOVE
+    }
 }
 
 fn table_next(count: u8, letters: &[u8], targets: &[u8], state: u16, event: u8) -> Next
@@ -60,7 +67,11 @@ fn table_next(count: u8, letters: &[u8], targets: &[u8], state: u16, event: u8) 
         return Next::Foreign;
     }
     let to = u16::from(target(letters, targets, state, event));
-    if state < table_count(count) && to < table_count(count) { Next::To(to) } else { Next::Forbidden }
+    if state < table_count(count) && to < table_count(count) {
+        Next::To(to)
+    } else {
+        Next::Forbidden
+    }
 }
 
 fn counter_knows(letters: &[u8], event: u8) -> bool
@@ -158,7 +169,12 @@ pub impl<'a> Generator for Make<'a> as MakeGenerator {
 
     fn next(&self, state: u16, event: u8) -> Next {
         match *self {
-            Make::Table { count, letters, targets, .. } => table_next(count, letters, targets, state, event),
+            Make::Table {
+                count,
+                letters,
+                targets,
+                ..
+            } => table_next(count, letters, targets, state, event),
             Make::Counter { capacity, letters } => counter_next(capacity, letters, state, event),
             Make::Stock { columns } => stock_next(columns, state, event),
         }

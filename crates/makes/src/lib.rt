@@ -1,7 +1,8 @@
 // The makes of generators: each is read from the bytes of a body, and is a generator.
 mod bytes;
 mod fits;
-mod generator;
+pub mod generator;
 pub mod law;
 pub mod make;
-pub use generator::MakeGenerator;
+#[cfg(test)]
+mod tests;

@@ -12,18 +12,33 @@ use crate::fits::departure;
 use crate::fits::size;
 use model::fault::Fault;
 
-// A generator by the parts of its body. The events are numbered from 0.
+// A generator by the parts of its body, over the events of a chart, numbered from 0.
 #[derive(Clone, Copy)]
 pub enum Make<'a> {
-    // moves written out: a letter for each event, a mark for each state, and a target for each state and event
-    Table { count: u8, initial: u8, letters: &'a [u8], marks: &'a [u8], targets: &'a [u8] },
-    // a number from 0 to the capacity, and a letter for each event: it raises, lowers or keeps the number
-    Counter { capacity: u8, letters: &'a [u8] },
-    // two states: the events of columns 0 and 1 lead from 0 to 1, those of columns 2 and 3 back; 255 is no event
-    Stock { columns: [u8; 4] },
+    // T, a count from 1 to 200, an initial state, a letter for each event (+ known, - not), a mark for each state (m or -),
+    // and a target for each state and event, row by row: a state, or 255 for no move
+    Table {
+        count: u8,
+        initial: u8,
+        letters: &'a [u8],
+        marks: &'a [u8],
+        targets: &'a [u8],
+    },
+    // C, a capacity from 1 to 199, a letter for each event (- unknown, u up, d down, s stays); the states are 0 to the capacity
+    Counter {
+        capacity: u8,
+        letters: &'a [u8],
+    },
+    // I, 0, four columns, each an event or 255, no event twice: columns 0 and 1 lead from 0 to 1, columns 2 and 3 back
+    Stock {
+        columns: [u8; 4],
+    },
 }
 
+// The byte of a column with no event, and that of a target where there is no move.
 pub const NO_EVENT: u8 = 255;
+
+pub const NO_MOVE: u8 = 255;
 
 impl<'a> Make<'a> {
     // Reads a body that stands in code.
@@ -34,14 +49,19 @@ impl<'a> Make<'a> {
     }
 
     // Reads the body of a component, which begins at the place `origin` of its file.
-    pub fn read_at(body: &'a [u8], events: u8, component: Option<u8>, origin: u16) -> Result<Make<'a>, Fault>
+    pub fn read_at(
+        body: &'a [u8],
+        events: u8,
+        component: Option<u8>,
+        origin: u16,
+    ) -> Result<Make<'a>, Fault>
         ensures { λ r. ⌜ meant shape r ≡ bodyReading component origin events (now (body .entry)) ⌝ }
     {
         whole(body, events, component, origin)?;
         Ok(Make::cut(body, events))
     }
 
-    // The parts of a body, untested: for a body that was read before.
+    // The parts of a body, untested and in constant time: for a body that was read before.
     pub fn cut(body: &'a [u8], events: u8) -> Make<'a>
         ensures { λ r. ⌜ shape r ≡ shapeIn events (now (body .entry)) ⌝ }
     {
@@ -60,7 +80,10 @@ fn whole(body: &[u8], events: u8, component: Option<u8>, origin: u16) -> Result<
     let place = departure(body, events);
     let end = size(body, events);
     if place < body.len() || place < end {
-        return Err(Fault::Body { component, place: u32::from(origin) + place as u32 });
+        return Err(Fault::Body {
+            component,
+            place: u32::from(origin) + place as u32,
+        });
     }
     Ok(())
 }
@@ -71,7 +94,13 @@ fn table_of(count: u8, initial: u8, parts: &[u8], events: u8) -> Make<'_>
 {
     let (letters, rest) = split(parts, events as usize);
     let (marks, targets) = split(rest, count as usize);
-    Make::Table { count, initial, letters, marks, targets }
+    Make::Table {
+        count,
+        initial,
+        letters,
+        marks,
+        targets,
+    }
 }
 
 fn cut_table(body: &[u8], events: u8) -> Make<'_>
@@ -88,14 +117,25 @@ fn cut_counter(body: &[u8]) -> Make<'_>
     ensures { λ r. ⌜ shape r ≡ counterIn (now (body .entry)) ⌝ }
 {
     match body {
-        [_, capacity, letters @ ..] => Make::Counter { capacity: *capacity, letters },
-        _ => Make::Counter { capacity: 0, letters: &[] },
+        [_, capacity, letters @ ..] => Make::Counter {
+            capacity: *capacity,
+            letters,
+        },
+        _ => Make::Counter {
+            capacity: 0,
+            letters: &[],
+        },
     }
 }
 
 fn cut_stock(body: &[u8]) -> Make<'_>
     ensures { λ r. ⌜ shape r ≡ stockIn (now (body .entry)) ⌝ }
 {
-    let columns = [byte_or(body, 2, NO_EVENT), byte_or(body, 3, NO_EVENT), byte_or(body, 4, NO_EVENT), byte_or(body, 5, NO_EVENT)];
+    let columns = [
+        byte_or(body, 2, NO_EVENT),
+        byte_or(body, 3, NO_EVENT),
+        byte_or(body, 4, NO_EVENT),
+        byte_or(body, 5, NO_EVENT),
+    ];
     Make::Stock { columns }
 }

@@ -57,7 +57,7 @@ pow-bit e k =
     (λ (l : k < e).
     let q : e ≡ (e - k - 1) + 1 + k = omega arith in
     let d : 2 ^ ((e - k - 1) + 1 + k) / 2 ^ k % 2 ≡ 0 =
-        rw (pow-add 2 ((e - k - 1) + 1) k, shl-shr (2 ^ ((e - k - 1) + 1)) k, pow-add 2 (e - k - 1) 1) (mul-mod-left (2 ^ (e - k - 1)) 2) in
+    rw (pow-add 2 ((e - k - 1) + 1) k, shl-shr (2 ^ ((e - k - 1) + 1)) k, pow-add 2 (e - k - 1) 1) (mul-mod-left (2 ^ (e - k - 1)) 2) in
     rw (ne-eqb k e (λ s. omega arith)) (rw (← q) at d))
     (λ (g : e < k). rw (ne-eqb k e (λ s. omega arith), div-eq-of-lt (pow-below e k g)) refl))
     (cases-order k e)

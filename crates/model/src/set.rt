@@ -24,7 +24,9 @@ impl EventSet {
         ensures { λ r. ⌜ ((k : ℕ) → member (r .word) k ≡ (member (self .word) k || (ltb k 64 && eqb k event))) ⌝ }
     {
         if event < 64 {
-            EventSet { word: self.word | (1 << event) }
+            EventSet {
+                word: self.word | (1 << event),
+            }
         } else {
             self
         }
@@ -33,12 +35,16 @@ impl EventSet {
     pub fn union(self, other: EventSet) -> EventSet
         ensures { λ r. ⌜ ((k : ℕ) → member (r .word) k ≡ (member (self .word) k || member (other .word) k)) ⌝ }
     {
-        EventSet { word: self.word | other.word }
+        EventSet {
+            word: self.word | other.word,
+        }
     }
 
     pub fn intersection(self, other: EventSet) -> EventSet
         ensures { λ r. ⌜ ((k : ℕ) → member (r .word) k ≡ (member (self .word) k && member (other .word) k)) ⌝ }
     {
-        EventSet { word: self.word & other.word }
+        EventSet {
+            word: self.word & other.word,
+        }
     }
 }

@@ -21,7 +21,10 @@ fn read(file: &[u8]) -> Result<Verdict, Fault>
 {
     let chart = read_chart(file)?;
     FileBank::read(file)?;
-    Ok(Verdict::Read { levels: chart.levels(), events: chart.events() })
+    Ok(Verdict::Read {
+        levels: chart.levels(),
+        events: chart.events(),
+    })
 }
 
 impl Verdict {

@@ -45,8 +45,16 @@ impl Row {
             return Err(Fault::Event { place: place + 1 });
         }
         match control as char {
-            'c' => Ok(Row { kind, owner, uncontrollable: false }),
-            'u' => Ok(Row { kind, owner, uncontrollable: true }),
+            'c' => Ok(Row {
+                kind,
+                owner,
+                uncontrollable: false,
+            }),
+            'u' => Ok(Row {
+                kind,
+                owner,
+                uncontrollable: true,
+            }),
             _ => Err(Fault::Event { place: place + 2 }),
         }
     }
@@ -62,7 +70,12 @@ struct Words {
 }
 
 impl Words {
-    const EMPTY: Words = Words { owned: [0; 9], requests: 0, answers: 0, uncontrollable: 0 };
+    const EMPTY: Words = Words {
+        owned: [0; 9],
+        requests: 0,
+        answers: 0,
+        uncontrollable: 0,
+    };
 
     // The words with the event too.
     fn with(self, event: u8, row: Row) -> Words
@@ -121,7 +134,11 @@ fn with_bit(word: u64, event: u8, test: bool) -> u64
     requires { ⌜ event < 64 ⌝ }
     ensures { λ r. ⌜ ((e : ℕ) → member r e ≡ (member word e || (eqb e event && test))) ⌝ }
 {
-    if test { EventSet { word }.with(event).word } else { word }
+    if test {
+        EventSet { word }.with(event).word
+    } else {
+        word
+    }
 }
 
 fn is_request(kind: Kind) -> bool
@@ -150,15 +167,31 @@ impl Chart {
         let Header { levels, events } = header;
         let size = 3 * events as usize;
         if rows.len() < size {
-            return Err(Fault::Contents { place: origin as u32 + rows.len() as u32 });
+            return Err(Fault::Contents {
+                place: origin as u32 + rows.len() as u32,
+            });
         }
         if rows.len() > size {
-            return Err(Fault::Contents { place: origin as u32 + size as u32 });
+            return Err(Fault::Contents {
+                place: origin as u32 + size as u32,
+            });
         }
         let words = Words::read(levels, events, rows, origin)?;
         words.complete(levels, events)?;
-        let Words { owned, requests, answers, uncontrollable } = words;
-        Ok(Chart { levels, events, owned, requests, answers, uncontrollable })
+        let Words {
+            owned,
+            requests,
+            answers,
+            uncontrollable,
+        } = words;
+        Ok(Chart {
+            levels,
+            events,
+            owned,
+            requests,
+            answers,
+            uncontrollable,
+        })
     }
 
     // Reads a chart in code: the header and then the event body.

@@ -7,6 +7,7 @@ ghost use Rattle.charts.specs.Meanings.{headerMeaning};
 use super::Header;
 use model::fault::Fault;
 
+// A line file has at most this many bytes.
 const MAX_LENGTH: usize = 60000;
 
 impl Header {
@@ -31,10 +32,14 @@ impl Header {
         ensures { λ r. ⌜ meant headerMeaning r ≡ headerReading (now (bytes .entry)) ⌝ }
     {
         if bytes.len() > MAX_LENGTH {
-            return Err(Fault::Header { place: 60000 });
+            return Err(Fault::Header {
+                place: MAX_LENGTH as u32,
+            });
         }
         let [version, levels, events, ..] = bytes else {
-            return Err(Fault::Header { place: bytes.len() as u32 });
+            return Err(Fault::Header {
+                place: bytes.len() as u32,
+            });
         };
         if *version != 1 {
             return Err(Fault::Header { place: 0 });
@@ -45,6 +50,9 @@ impl Header {
         if *events < 1 || *events > 64 {
             return Err(Fault::Header { place: 2 });
         }
-        Ok(Header { levels: *levels, events: *events })
+        Ok(Header {
+            levels: *levels,
+            events: *events,
+        })
     }
 }

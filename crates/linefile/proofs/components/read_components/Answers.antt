@@ -27,7 +27,7 @@ loop-component-holds c =
 pub cast-start : need.cast-start
 cast-start c =
     let h = steps.start-below (c .args .levels) (c .args .file .now) (c .args .contents .now .bodies) (c .typed .contents) (c .pre .few) (c .pre .found) (c .pre .right)
-        (c .loop-component .component) (c .loop-component .start) (omega arith) (c .loop-component .inv .0) in
+    (c .loop-component .component) (c .loop-component .start) (omega arith) (c .loop-component .inv .0) in
     omega (arith, h)
 
 pub returns-in-Break-read-at : need.returns-in-Break-read-at
@@ -35,9 +35,9 @@ returns-in-Break-read-at c =
     let n : ℕ = c .args .levels in
     let f : List ℕ = c .args .file .now in
     let b = ap (λ k. getD (c .args .contents .now .bodies) (k + 1) steps.nowhere .now) (c .from .ensures)
-        ∙ steps.body-is (c .args .levels) (c .args .file .now) (c .args .contents .now .bodies) (c .typed .contents) (c .pre .few) (c .pre .found) (c .pre .right) (c .loop-component .component + 1) (omega arith) in
+    ∙ steps.body-is (c .args .levels) (c .args .file .now) (c .args .contents .now .bodies) (c .typed .contents) (c .pre .few) (c .pre .found) (c .pre .right) (c .loop-component .component + 1) (omega arith) in
     let told = c .in-Break-read-at .ensures tt
-        ∙ steps.component-told (c .args .levels) (c .args .file .now) (c .args .contents .now .bodies) (c .typed .contents) (c .pre .few) (c .pre .found) (c .pre .right) (c .args .events) (c .loop-component .component) (c .loop-component .start) _ (c .loop-component .inv .0) b in
+    ∙ steps.component-told (c .args .levels) (c .args .file .now) (c .args .contents .now .bodies) (c .typed .contents) (c .pre .few) (c .pre .found) (c .pre .right) (c .args .events) (c .loop-component .component) (c .loop-component .start) _ (c .loop-component .inv .0) b in
     let p = err-from-errBy (c .from-residual .result) (c .from-residual .ensures .1) in
     rw (p .1, p .2)
     (sym (turn-off (componentReading n (c .args .events) f) (c .loop-component .component) (c .in-Break-read-at .field-0 .0) (c .loop-component .inv .1) (sym told) (components n) (omega arith)))
@@ -45,17 +45,18 @@ returns-in-Break-read-at c =
 pub add-start-in-loop-component : need.add-start-in-loop-component
 add-start-in-loop-component c =
     let z = ap (λ k. length (getD (c .args .contents .now .bodies) (k + 1) steps.nowhere .now)) (c .from .ensures)
-        ∙ steps.body-size (c .args .levels) (c .args .file .now) (c .args .contents .now .bodies) (c .typed .contents) (c .pre .few) (c .pre .found) (c .pre .right) (c .loop-component .component + 1) (omega arith) in
+    ∙ steps.body-size (c .args .levels) (c .args .file .now) (c .args .contents .now .bodies) (c .typed .contents) (c .pre .few) (c .pre .found) (c .pre .right) (c .loop-component .component + 1) (omega arith) in
     let h = steps.start-next (c .args .levels) (c .args .file .now) (c .args .contents .now .bodies) (c .typed .contents) (c .pre .few) (c .pre .found) (c .pre .right) (c .loop-component .component + 1) (omega arith) in
     omega (arith, z, h, c .loop-component .inv .0)
 
 pub loop-component-again : need.loop-component-again
 loop-component-again c =
     let z = ap (λ k. length (getD (c .args .contents .now .bodies) (k + 1) steps.nowhere .now)) (c .from .ensures)
-        ∙ steps.body-size (c .args .levels) (c .args .file .now) (c .args .contents .now .bodies) (c .typed .contents) (c .pre .few) (c .pre .found) (c .pre .right) (c .loop-component .component + 1) (omega arith) in
+    ∙ steps.body-size (c .args .levels) (c .args .file .now) (c .args .contents .now .bodies) (c .typed .contents) (c .pre .few) (c .pre .found) (c .pre .right) (c .loop-component .component + 1) (omega arith) in
     let b = ap (λ k. getD (c .args .contents .now .bodies) (k + 1) steps.nowhere .now) (c .from .ensures)
-        ∙ steps.body-is (c .args .levels) (c .args .file .now) (c .args .contents .now .bodies) (c .typed .contents) (c .pre .few) (c .pre .found) (c .pre .right) (c .loop-component .component + 1) (omega arith) in
+    ∙ steps.body-is (c .args .levels) (c .args .file .now) (c .args .contents .now .bodies) (c .typed .contents) (c .pre .few) (c .pre .found) (c .pre .right) (c .loop-component .component + 1) (omega arith) in
     let told = c .in-Continue-read-at .ensures tt
-        ∙ steps.component-told (c .args .levels) (c .args .file .now) (c .args .contents .now .bodies) (c .typed .contents) (c .pre .few) (c .pre .found) (c .pre .right) (c .args .events) (c .loop-component .component) (c .loop-component .start) _ (c .loop-component .inv .0) b in
-    (steps.start-moves (c .args .levels) (c .args .file .now) (c .args .contents .now .bodies) (c .typed .contents) (c .pre .few) (c .pre .found) (c .pre .right) (c .loop-component .component) _ _ (c .loop-component .inv .0) z,
-    steps.component-on (c .args .levels) (c .args .file .now) (c .args .contents .now .bodies) (c .typed .contents) (c .pre .few) (c .pre .found) (c .pre .right) (c .args .events) (c .loop-component .component) (shape (c .in-Continue-read-at .field-0)) (c .loop-component .inv .1) (sym told))
+    ∙ steps.component-told (c .args .levels) (c .args .file .now) (c .args .contents .now .bodies) (c .typed .contents) (c .pre .few) (c .pre .found) (c .pre .right) (c .args .events) (c .loop-component .component) (c .loop-component .start) _ (c .loop-component .inv .0) b in (
+      steps.start-moves (c .args .levels) (c .args .file .now) (c .args .contents .now .bodies) (c .typed .contents) (c .pre .few) (c .pre .found) (c .pre .right) (c .loop-component .component) _ _ (c .loop-component .inv .0) z,
+      steps.component-on (c .args .levels) (c .args .file .now) (c .args .contents .now .bodies) (c .typed .contents) (c .pre .few) (c .pre .found) (c .pre .right) (c .args .events) (c .loop-component .component) (shape (c .in-Continue-read-at .field-0)) (c .loop-component .inv .1) (sym told),
+    )

@@ -1,14 +1,19 @@
-use mathlib.Core.Path.{_∙_, sym}
-use native.Mathlib.Omega.{arith}
-use Rattle.makes.proofs.Departures.{fits-table, fits-counter, fits-stock}
+use borrow.Author.Needs.{needs}
+use Rattle.makes.specs.Bodies.{bodyFits}
 use Rattle.makes.proofs.fits.byte_fits.Needs as need
 
 pub returns-in-T : need.returns-in-T
-returns-in-T c = c .table-fits .ensures ∙ sym (fits-table (c .args .events) (c .args .body .now) (c .args .place) (c .in-T .is))
+unfolding bodyFits
+returns-in-T c = search needs
 
 pub returns-in-C : need.returns-in-C
-returns-in-C c = c .counter-fits .ensures ∙ sym (fits-counter (c .args .events) (c .args .body .now) (c .args .place) (c .in-C .is))
+unfolding bodyFits
+returns-in-C c = search needs
+
+pub returns-in-I : need.returns-in-I
+unfolding bodyFits
+returns-in-I c = search needs
 
 pub returns-in-rest : need.returns-in-rest
-returns-in-rest c =
-    c .stock-fits .ensures ∙ sym (fits-stock (c .args .events) (c .args .body .now) (c .args .place) (λ e. omega arith) (λ e. omega arith))
+unfolding bodyFits
+returns-in-rest c = search needs

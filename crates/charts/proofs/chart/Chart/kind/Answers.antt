@@ -1,28 +1,14 @@
-use mathlib.Core.Path.{refl, sym, _∙_}
-use mathlib.Core.Bool.{true, false}
 use native.Mathlib.Omega.{arith}
-use Rattle.charts.proofs.Sets.{kind-some, kind-none}
+use Rattle.charts.proofs.Sets.{kind-at, kind-none}
 use Rattle.charts.proofs.chart.Chart.kind.Needs as need
 
 pub returns-then-event-self : need.returns-then-event-self
-returns-then-event-self c = kind-none (c .args .self .now) (c .args .event) (c .if-event-self .taken)
+returns-then-event-self c = let none = kind-none (c .args .self .now) (c .args .event) (omega arith) in cc
 
-pub returns-then-contains : need.returns-then-contains
-returns-then-contains c =
-    kind-some (c .args .self .now) (c .args .event) true _ _ (c .if-event-self .left)
-    (sym (c .if-contains .ensures tt ∙ c .level-alphabet .ensures (c .args .event))) refl refl
-
-pub returns-then-contains-2 : need.returns-then-contains-2
-returns-then-contains-2 c =
-    kind-some (c .args .self .now) (c .args .event) false true _ (c .if-event-self .left)
-    (sym (c .if-contains .ensures tt ∙ c .level-alphabet .ensures (c .args .event))) (sym (c .if-contains-2 .ensures tt)) refl
-
-pub returns-then-contains-3 : need.returns-then-contains-3
-returns-then-contains-3 c =
-    kind-some (c .args .self .now) (c .args .event) false false true (c .if-event-self .left)
-    (sym (c .if-contains .ensures tt ∙ c .level-alphabet .ensures (c .args .event))) (sym (c .if-contains-2 .ensures tt)) (sym (c .if-contains-3 .ensures tt))
-
-pub returns-else-contains-3 : need.returns-else-contains-3
-returns-else-contains-3 c =
-    kind-some (c .args .self .now) (c .args .event) false false false (c .if-event-self .left)
-    (sym (c .if-contains .ensures tt ∙ c .level-alphabet .ensures (c .args .event))) (sym (c .if-contains-2 .ensures tt)) (sym (c .if-contains-3 .ensures tt))
+pub returns : need.returns
+returns c =
+    let owned = c .level-alphabet .ensures (c .args .event) in
+    let request = c .all-requests .ensures (c .args .event) in
+    let answer = c .all-answers .ensures (c .args .event) in
+    let kind = kind-at (c .args .self .now) (c .args .event) (omega arith) in
+    cc

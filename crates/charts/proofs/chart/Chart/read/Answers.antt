@@ -1,6 +1,4 @@
-use mathlib.Core.Path.{ap, _∙_}
-use mathlib.Core.List.{List}
-use Prim.Native.Nat.{ℕ}
+use mathlib.Core.Path.{ap}
 use lib.ListN.{drop}
 use Rattle.std.proofs.shelf.Lists.{take-rest}
 use Rattle.std.proofs.shelf.Results.{err-from-errBy}
@@ -21,6 +19,7 @@ returns-in-Break-header c =
 pub returns : need.returns
 unfolding chartReading
 returns c =
-    c .from-rows .ensures
-    ∙ ap (λ (rows : List ℕ). rowsReading (c .in-Continue-header .header .levels) (c .in-Continue-header .header .events) rows 3) (take-rest (c .args .bytes .now) 3)
-    ∙ ap (λ (r : Result Sizes Fault). andThen r (λ s. rowsReading (s .levels) (s .events) (drop 3 (c .args .bytes .now)) 3)) (c .in-Continue-header .ensures tt)
+    let rest = take-rest (c .args .bytes .now) 3 in
+    let rows = c .from-rows .ensures in
+    let header = ap (λ (r : Result Sizes Fault). andThen r (λ s. rowsReading (s .levels) (s .events) (drop 3 (c .args .bytes .now)) 3)) (c .in-Continue-header .ensures tt) in
+    cc

@@ -15,10 +15,15 @@ pub loop-left-holds : need.loop-left-holds
 loop-left-holds c =
     let S : ℕ = c .contents-end-end .result - 3 in
     let f : List ℕ = c .args .file .now in
-    let n : length (take S (drop 3 f)) ≡ S = simp (length-take, length-drop) (omega arith) in
-    (omega (arith, n), omega arith, refl,
-    (λ j h. getD-take S (drop 3 f) j 0 (omega (arith, n)) ∙ getD-drop 3 f j 0),
-    (λ i h. absurd (omega arith)), c .contents-end-end .ensures, refl)
+    let n : length (take S (drop 3 f)) ≡ S = simp (length-take, length-drop) (omega arith) in (
+      omega (arith, n),
+      omega arith,
+      refl,
+      (λ j h. getD-take S (drop 3 f) j 0 (omega (arith, n)) ∙ getD-drop 3 f j 0),
+      (λ i h. absurd (omega arith)),
+      c .contents-end-end .ensures,
+      refl,
+    )
 
 pub returns-in-Break-body : need.returns-in-Break-body
 returns-in-Break-body c =
@@ -43,9 +48,12 @@ loop-left-again c =
     let m = past-length 4 left in
     let s = c .number-start .ensures ∙ start-is f left (c .loop-left .row) (omega (arith, ltb-false)) (c .loop-left .inv .3) in
     let z = c .number-size .ensures ∙ length-is f left (c .loop-left .row) (omega (arith, ltb-false)) (c .loop-left .inv .3) in
-    let on = row-on n f (c .loop-left .row) _ _ _ s z (c .loop-left .inv .5) (c .in-Continue-body .body .now) (c .in-Continue-body .ensures tt) in
-    (omega (arith, ltb-false), on .ends, length-set _ _ _ ∙ c .loop-left .inv .2,
-    (λ j h. past-at 4 left j ∙ c .loop-left .inv .3 (4 + j) (omega (arith, ltb-false)) ∙ ap (λ k. getD f k 0) (omega arith)),
-    texts-more (bodyOf n f) (c .loop-left .bodies) (c .loop-left .row) (c .in-Continue-body .body) (omega (arith, ltb-false)) (on .is) (c .loop-left .inv .4),
-    start-on n f (c .loop-left .row) _ _ (c .loop-left .inv .5) z,
-    turns-on n f (c .loop-left .row) (c .loop-left .inv .6) (on .reads))
+    let on = row-on n f (c .loop-left .row) _ _ _ s z (c .loop-left .inv .5) (c .in-Continue-body .body .now) (c .in-Continue-body .ensures tt) in (
+      omega (arith, ltb-false),
+      on .ends,
+      length-set _ _ _ ∙ c .loop-left .inv .2,
+      (λ j h. past-at 4 left j ∙ c .loop-left .inv .3 (4 + j) (omega (arith, ltb-false)) ∙ ap (λ k. getD f k 0) (omega arith)),
+      texts-more (bodyOf n f) (c .loop-left .bodies) (c .loop-left .row) (c .in-Continue-body .body) (omega (arith, ltb-false)) (on .is) (c .loop-left .inv .4),
+      start-on n f (c .loop-left .row) _ _ (c .loop-left .inv .5) z,
+      turns-on n f (c .loop-left .row) (c .loop-left .inv .6) (on .reads),
+    )

@@ -24,8 +24,9 @@ returns-in-Break-row c =
 pub loop-event-again : need.loop-event-again
 loop-event-again c =
     let says = row-says (c .args .levels) (c .args .rows .now) (c .loop-event .event) (c .loop-event .left .now) (c .in-Continue-row .row)
-        (c .args .origin + 3 * c .loop-event .event) (c .loop-event .inv .0) (c .in-Continue-row .ensures tt) in
-    (rest-more (c .args .rows .now) (c .loop-event .left .now) (c .loop-event .event) (c .loop-event .inv .0),
-    gathered-more (c .args .levels) (c .args .rows .now) (c .loop-event .event) (c .loop-event .words) (c .with-words .result) (c .in-Continue-row .row) says
-    (c .loop-event .inv .1) (c .with-words .ensures),
-    right-more (c .args .levels) (c .args .rows .now) (c .loop-event .event) (c .in-Continue-row .row) says (c .loop-event .inv .2))
+    (c .args .origin + 3 * c .loop-event .event) (c .loop-event .inv .0) (c .in-Continue-row .ensures tt) in (
+      rest-more (c .args .rows .now) (c .loop-event .left .now) (c .loop-event .event) (c .loop-event .inv .0),
+      gathered-more (c .args .levels) (c .args .rows .now) (c .loop-event .event) (c .loop-event .words) (c .with-words .result) (c .in-Continue-row .row) says
+          (c .loop-event .inv .1) (c .with-words .ensures),
+      right-more (c .args .levels) (c .args .rows .now) (c .loop-event .event) (c .in-Continue-row .row) says (c .loop-event .inv .2),
+    )

@@ -1,0 +1,16 @@
+pub mod Walks
+pub mod Codes
+pub mod Decoding
+pub mod Facts
+pub mod Distances
+pub mod Measure
+pub mod Progress
+pub mod Controllable
+pub mod Laws
+pub mod Verdicts
+pub mod Coverage
+pub mod Decide
+pub mod Made
+pub mod SmallLine
+pub mod ShortestWords
+pub mod Rules

@@ -1,0 +1,10 @@
+pub mod Lines
+pub mod Sizes
+pub mod Points
+pub mod Verdict
+pub mod Guide
+pub mod Calls
+pub mod Law
+pub mod SmallLine
+pub mod Distances
+pub mod Rule
