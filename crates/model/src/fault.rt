@@ -1,6 +1,7 @@
 // Every refusal of the library, and the seven fields by which it is reported.
 ghost use mathlib.Core.Path.{_≡_};
-ghost use Rattle.model.specs.Faults.{fieldsOf, letterOf, orUnused};
+ghost use Rattle.model.specs.Faults.{fields, fieldsOf, letterOf, orUnused};
+ghost use Rattle.model.specs.declared.fault.Layer.the-variants.{Check as CheckLayer};
 use std::fmt;
 
 // Which part of the library refuses.
@@ -109,110 +110,95 @@ fn or_unused(number: Option<u8>) -> u8
     }
 }
 
-const NO_FIELD: Fields = Fields {
-    number: 0,
-    layer: Layer::File,
-    point: UNUSED,
-    level: UNUSED,
-    component: UNUSED,
-    place: 255,
-    event: UNUSED,
-};
+impl Fields {
+    // A fault of the number and layer, with no other field.
+    fn new(number: u8, layer: Layer) -> Fields
+        ensures { λ r. ⌜ r ≡ fields number layer 255 255 255 255 255 ⌝ }
+    {
+        Fields {
+            number,
+            layer,
+            point: UNUSED,
+            level: UNUSED,
+            component: UNUSED,
+            place: 255,
+            event: UNUSED,
+        }
+    }
+
+    fn level(self, level: u8) -> Fields
+        ensures { λ r. ⌜ r ≡ fields (self .number) (self .layer) (self .point) level (self .component) (self .place) (self .event) ⌝ }
+    {
+        Fields { level, ..self }
+    }
+
+    fn component(self, component: u8) -> Fields
+        ensures { λ r. ⌜ r ≡ fields (self .number) (self .layer) (self .point) (self .level) component (self .place) (self .event) ⌝ }
+    {
+        Fields { component, ..self }
+    }
+
+    fn place(self, place: u32) -> Fields
+        ensures { λ r. ⌜ r ≡ fields (self .number) (self .layer) (self .point) (self .level) (self .component) place (self .event) ⌝ }
+    {
+        Fields { place, ..self }
+    }
+
+    fn event(self, event: u8) -> Fields
+        ensures { λ r. ⌜ r ≡ fields (self .number) (self .layer) (self .point) (self .level) (self .component) (self .place) event ⌝ }
+    {
+        Fields { event, ..self }
+    }
+
+    // A failed point of a level.
+    fn failed(point: u8, level: u8) -> Fields
+        ensures { λ r. ⌜ r ≡ fields 14 CheckLayer point level 255 255 255 ⌝ }
+    {
+        Fields {
+            point,
+            level,
+            ..Fields::new(14, Layer::Check)
+        }
+    }
+}
 
 impl Fault {
     pub fn fields(self) -> Fields
         ensures { λ r. ⌜ r ≡ fieldsOf self ⌝ }
     {
-        let none = NO_FIELD;
         match self {
-            Fault::Header { place } => Fields {
-                number: 1,
-                place,
-                ..none
-            },
-            Fault::Contents { place } => Fields {
-                number: 2,
-                place,
-                ..none
-            },
-            Fault::Event { place } => Fields {
-                number: 3,
-                place,
-                ..none
-            },
-            Fault::Level { level } => Fields {
-                number: 4,
-                level,
-                ..none
-            },
-            Fault::Body { component, place } => Fields {
-                number: 5,
-                layer: Layer::Body,
-                component: or_unused(component),
-                place,
-                ..none
-            },
-            Fault::Components => Fields {
-                number: 11,
-                layer: Layer::Check,
-                ..none
-            },
-            Fault::WalkSize { level } => Fields {
-                number: 12,
-                layer: Layer::Check,
-                level,
-                ..none
-            },
-            Fault::WorkCells { layer } => Fields {
-                number: 13,
-                layer,
-                ..none
-            },
+            Fault::Header { place } => Fields::new(1, Layer::File).place(place),
+            Fault::Contents { place } => Fields::new(2, Layer::File).place(place),
+            Fault::Event { place } => Fields::new(3, Layer::File).place(place),
+            Fault::Level { level } => Fields::new(4, Layer::File).level(level),
+            Fault::Body { component, place } => {
+                Fields::new(5, Layer::Body)
+                    .component(or_unused(component))
+                    .place(place)
+            }
+            Fault::Components => Fields::new(11, Layer::Check),
+            Fault::WalkSize { level } => Fields::new(12, Layer::Check).level(level),
+            Fault::WorkCells { layer } => Fields::new(13, layer),
             Fault::Alphabet {
                 level,
                 component,
                 event,
-            } => Fields {
-                number: 14,
-                layer: Layer::Check,
-                point: 1,
-                level,
-                component,
-                event,
-                ..none
-            },
+            } => { Fields::failed(1, level).component(component).event(event) }
             Fault::Point {
                 point,
                 level,
                 state,
                 event,
-            } => Fields {
-                number: 14,
-                layer: Layer::Check,
-                point,
-                level,
-                place: u32::from(state),
-                event: or_unused(event),
-                ..none
-            },
-            Fault::EventNumber { event } => Fields {
-                number: 21,
-                layer: Layer::Run,
-                event,
-                ..none
-            },
-            Fault::Refused { component, event } => Fields {
-                number: 22,
-                layer: Layer::Run,
-                component,
-                event,
-                ..none
-            },
-            Fault::PossibleSlice => Fields {
-                number: 23,
-                layer: Layer::Run,
-                ..none
-            },
+            } => {
+                Fields::failed(point, level)
+                    .place(u32::from(state))
+                    .event(or_unused(event))
+            }
+            Fault::EventNumber { event } => Fields::new(21, Layer::Run).event(event),
+            Fault::Refused { component, event } => Fields::new(22, Layer::Run)
+                .component(component)
+                .event(event),
+            Fault::PossibleSlice => Fields::new(23, Layer::Run),
         }
     }
 }
