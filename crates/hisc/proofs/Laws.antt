@@ -1,63 +1,28 @@
 -- The law over queues of calls. Assumes nothing.
 use mathlib.Core.Path.{_≡_, refl, sym, _∙_, ap, ap₂, subst}
-use mathlib.Core.Bool.{Bool, true, false, cond}
-use mathlib.Core.Option.{Option}
+use mathlib.Core.Bool.{Bool, true, cond}
 use mathlib.Core.List.{List, [], _∷_, _++_}
 use mathlib.Core.Logic.{inl, inr}
 use Prim.Native.Nat.{ℕ, suc, _≤_}
 use native.Mathlib.Omega.{arith}
-use lib.Dec.{ltb}
 use lib.ListN.{length}
 use Rattle.std.proofs.shelf.Tests.{cases-bool}
-use Rattle.model.specs.Generators.{forbids}
 use Rattle.model.specs.declared.fault.Layer.the-variants.{Run}
-use Rattle.model.specs.declared.fault.Fault.the-variants.{WorkCells, EventNumber}
-use Rattle.model.proofs.Finds.{never, first-or}
+use Rattle.model.specs.declared.fault.Fault.the-variants.{WorkCells}
 use Rattle.hisc.specs.declared.guide.Guidance.{Guidance}
 use Rattle.hisc.specs.declared.guide.Guidance.the-variants.{Home, NoEvent, Event}
-use Rattle.hisc.specs.Lines.{Line, State, components, flat, initial, moved, possible, Reached, begin, step}
+use Rattle.hisc.specs.Lines.{Line, State, flat, initial, moved, possible, Reached, begin, step}
 use Rattle.hisc.specs.Sizes.{Cells, enough, bound}
 use Rattle.hisc.specs.Guide.{named, guide}
-use Rattle.hisc.specs.Calls.{Call, Offer, Guide, Possible, Look, Restart, Reply, accepted, guidance, events, states, restarted, refused, refuser, unlessRefused, offerReply, reply, next, after, replies}
+use Rattle.hisc.specs.Calls.{Call, Offer, Guide, Possible, Look, Restart, Reply, accepted, guidance, refused, reply, next, after, replies}
 use Rattle.hisc.specs.Law.{followed, ledHome, HomeWithin, there, onward, Lawful, AssuredThroughout}
-use Rattle.hisc.proofs.Walks.{possible-alphabet, possible-at, possible-make}
 use Rattle.hisc.proofs.Facts.{Facts, facts}
+use Rattle.hisc.proofs.Replies.{possible-accepted}
 use Rattle.hisc.proofs.Rules.{home-marked, marked-home, in-range}
 use Rattle.hisc.proofs.Progress.{guided}
 use Rattle.hisc.proofs.Controllable.{unhindered}
 
 module _ (l : Line) where
-  -- an offer is accepted exactly if the event is possible in the whole line
-  pub possible-accepted : (x : State) (e : ℕ) → possible l (flat l) x e ≡ true → offerReply l x e ≡ accepted
-  unfolding refuser
-  possible-accepted x e p =
-      ap (λ (b : Bool). cond b (unlessRefused l (refuser l x e) e) (refused (EventNumber e))) (possible-alphabet l (flat l) x e p) ∙
-      elim (first-or (components l) (λ c. forbids (l .component c) (x c) e)) [
-        | inl r ↦ never (r .2 .holds) (possible-at l (flat l) x e p (r .0) (r .2 .within) refl)
-        | inr r ↦ ap (λ (o : Option ℕ). unlessRefused l o e) (r .0)
-      ]
-
-  abbrev isAccepted : Reply → Bool
-  isAccepted accepted = true
-  isAccepted (guidance g) = false
-  isAccepted (events w) = false
-  isAccepted (states w) = false
-  isAccepted restarted = false
-  isAccepted (refused f) = false
-
-  pub accepted-possible : (x : State) (e : ℕ) → offerReply l x e ≡ accepted → possible l (flat l) x e ≡ true
-  unfolding refuser
-  accepted-possible x e q =
-      elim (cases-bool (ltb e (l .chart .events))) [
-        | inl t ↦
-            let u : unlessRefused l (refuser l x e) e ≡ accepted = sym (ap (λ (b : Bool). cond b (unlessRefused l (refuser l x e) e) (refused (EventNumber e))) t) ∙ q in
-            elim (first-or (components l) (λ c. forbids (l .component c) (x c) e)) [
-              | inl r ↦ never (ap isAccepted u) (ap (λ (o : Option ℕ). isAccepted (unlessRefused l o e)) (r .1))
-              | inr r ↦ possible-make l (flat l) x e t (λ c lt i. r .1 c lt)
-            ]
-        | inr f ↦ never (ap isAccepted q) (ap (λ (b : Bool). isAccepted (cond b (unlessRefused l (refuser l x e) e) (refused (EventNumber e)))) f)
-      ]
-
   -- queues
   pub replies-++ : (x : State) (q p : List Call) → replies l x (q ++ p) ≡ replies l x q ++ replies l (after l x q) p
   replies-++ x [] p = refl
@@ -87,7 +52,7 @@ module _ (l : Line) where
 
   offered : (x : State) (e : ℕ) → possible l (flat l) x e ≡ true → (q : List Call) → replies l x (Offer e ∷ q) ≡ accepted ∷ replies l (moved l x e) q
   offered x e t q =
-      ap₂ (λ (r : Reply) (b : Bool). r ∷ replies l (cond b (moved l x e) x) q) (possible-accepted x e t) t
+      ap₂ (λ (r : Reply) (b : Bool). r ∷ replies l (cond b (moved l x e) x) q) (possible-accepted l x e t) t
 
   asked : (cells : Cells) → enough l cells ≡ true → (x : State) (g : Guidance) → guide l x ≡ g → reply l x (Guide cells) ≡ guidance g
   asked cells k x g q = ap (λ (b : Bool). cond b (guidance (guide l x)) (refused (WorkCells Run))) k ∙ ap guidance q

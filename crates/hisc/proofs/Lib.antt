@@ -6,6 +6,7 @@ pub mod Distances
 pub mod Measure
 pub mod Progress
 pub mod Controllable
+pub mod Replies
 pub mod Laws
 pub mod Verdicts
 pub mod Coverage

@@ -1,11 +1,12 @@
 -- Queues of calls to a running line, and their replies. The states come from the calls alone. Assumes nothing.
-use mathlib.Core.Bool.{Bool, cond}
+use mathlib.Core.Path.{_≡_}
+use mathlib.Core.Bool.{Bool, true, cond}
 use mathlib.Core.Option.{Option, none, some}
 use mathlib.Core.List.{List, [], _∷_, _++_}
-use Prim.Native.Nat.{ℕ, zero, suc}
-use lib.Dec.{ltb, leb}
+use Prim.Native.Nat.{ℕ, zero, suc, _+_}
+use lib.Dec.{eqb, ltb, leb}
 use Rattle.model.specs.Numbers.{first}
-use Rattle.model.specs.Generators.{forbids}
+use Rattle.model.specs.Generators.{Gen, forbids, moves}
 use Rattle.model.specs.declared.fault.Layer.the-variants.{Run}
 use Rattle.model.specs.declared.fault.Fault.{Fault}
 use Rattle.model.specs.declared.fault.Fault.the-variants.{WorkCells, EventNumber, Refused, PossibleSlice}
@@ -90,3 +91,37 @@ module _ (l : Line) where
   abbrev pub replies : State → List Call → List Reply
   replies x [] = []
   replies x (c ∷ q) = reply x c ∷ replies (next x c) q
+
+-- how often e stands in the list
+abbrev pub occurs : ℕ → List ℕ → ℕ
+occurs e [] = 0
+occurs e (d ∷ w) = cond (eqb e d) 1 0 + occurs e w
+
+-- a generator's state after events in turn: those that it knows move it
+abbrev pub turned : Gen → ℕ → List ℕ → ℕ
+turned g s [] = s
+turned g s (e ∷ w) = turned g (moves g s e) w
+
+-- the events of the accepted offers of a queue since its last restart, after w
+abbrev pub counted : Line → State → List ℕ → List Call → List ℕ
+counted l x w [] = w
+counted l x w (Offer e ∷ q) = counted l (next l x (Offer e)) (cond (possible l (flat l) x e) (w ++ (e ∷ [])) w) q
+counted l x w (Guide cells ∷ q) = counted l x w q
+counted l x w (Possible k ∷ q) = counted l x w q
+counted l x w (Look ∷ q) = counted l x w q
+counted l x w (Restart ∷ q) = counted l (initial l) [] q
+
+-- the replies and the states fit together
+pub record CallsAgree (l : Line) : Type 0 where
+  -- an offer is accepted exactly if the event is possible in the whole line
+  pub accepted-possible : (x : State) (e : ℕ) → reply l x (Offer e) ≡ accepted → possible l (flat l) x e ≡ true
+  pub possible-accepted : (x : State) (e : ℕ) → possible l (flat l) x e ≡ true → reply l x (Offer e) ≡ accepted
+  -- a refusal changes nothing
+  pub refused-stays : (x : State) (c : Call) (f : Fault) → reply l x c ≡ refused f → next l x c ≡ x
+  -- each event that an offer would accept is listed once, and no other
+  pub listed-once : (x : State) (e : ℕ) → occurs e (acceptable l x) ≡ cond (possible l (flat l) x e) 1 0
+  -- a component's state is its initial one, moved in turn by the accepted events since the last restart that it knows
+  pub states-counted : (q : List Call) (c : ℕ) → after l (initial l) q c ≡ turned (l .component c) (l .component c .initial) (counted l (initial l) [] q)
+
+abbrev pub AllCallsAgree : Type 0
+AllCallsAgree = (l : Line) → CallsAgree l

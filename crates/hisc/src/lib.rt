@@ -3,6 +3,7 @@
 pub mod guide;
 
 ghost use mathlib.Core.Path.{_≡_};
+ghost use Rattle.hisc.specs.Calls.{AllCallsAgree};
 ghost use Rattle.hisc.specs.Distances.{Shortest};
 ghost use Rattle.hisc.specs.Law.{AssuredThroughout, Lawful};
 ghost use Rattle.hisc.specs.Rule.{KeepsRule};
@@ -20,6 +21,13 @@ pub fn lawful() -> u8
 // Every state that such a line reaches is assured: the guide leads home from it within the bound, and uncontrollable events are free.
 pub fn assured() -> u8
     ensures { λ _. ⌜ AssuredThroughout ⌝ }
+{
+    0
+}
+
+// The replies and the states of a queue of calls fit together, in every line.
+pub fn calls_agree() -> u8
+    ensures { λ _. ⌜ AllCallsAgree ⌝ }
 {
     0
 }
