@@ -16,6 +16,7 @@ use walks::row::Row;
 use walks::searches::coreach;
 use walks::searches::nearest;
 use walks::searches::reach;
+use walks::walk::Walk;
 
 // The most states that a walk has.
 const STATES: usize = 4096;
@@ -45,9 +46,10 @@ impl Found {
     }
 }
 
-fn count(cells: &[u32], value: u32) -> usize {
+// How many of the first `size` cells have the value.
+fn count(cells: &[u32], size: usize, value: u32) -> usize {
     let mut n: usize = 0;
-    for cell in cells {
+    for cell in cells.iter().take(size) {
         if *cell == value {
             n = n.saturating_add(1);
         }
@@ -67,10 +69,11 @@ fn search_walk<B: Bank>(
         0 => (Part::High, Aim::HighMarked),
         _ => (Part::Low(level), Aim::LowMarked(level)),
     };
+    let size = Walk::of(chart, bank, part)?.size() as usize;
     reach(chart, bank, part, stack, flags)?;
-    let reached = count(flags, 1);
+    let reached = count(flags, size, 1);
     coreach(chart, bank, aim, flags, stack, places)?;
-    let leading = count(flags, 1);
+    let leading = count(flags, size, 1);
     let steps = match nearest(chart, bank, aim, &Row::initial(bank), stack, places)? {
         Way::Unreachable => None,
         Way::Here => Some(0),
