@@ -1,4 +1,6 @@
 // The chart of events and its readers.
+#![tactic(auto)]
+
 pub mod chart;
 pub mod header;
 

@@ -1,4 +1,6 @@
 // Generators, and banks of them.
+#![tactic(auto)]
+
 pub mod bank;
 pub mod generator;
 pub mod pile;

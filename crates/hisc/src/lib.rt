@@ -1,5 +1,7 @@
 // The meaning of lines, the ten points, the guide and the calls, and the argument from the levels to the line.
 // A line is a chart of events and a list of components; the definitions stand in specs/. Each function below carries a theorem.
+#![tactic(auto)]
+
 pub mod guide;
 
 ghost use Rattle.std.specs.Prelude.{◌≡◌};

@@ -1,4 +1,6 @@
 // Lines: one that passed the check, and one that runs.
+#![tactic(auto)]
+
 pub mod calls;
 pub mod check;
 pub mod line;

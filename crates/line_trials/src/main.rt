@@ -1,4 +1,6 @@
 // Trials: lines piled in code, and the line files that are named.
+#![tactic(auto)]
+
 mod cells;
 mod chance;
 mod cycle;

@@ -1,4 +1,6 @@
 // linecheck: reads a line file on standard input, and writes one line with its verdict.
+#![tactic(auto)]
+
 use report::verdict::Verdict;
 use std::io::Read;
 

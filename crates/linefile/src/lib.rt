@@ -1,4 +1,6 @@
 // The line file: a chart of events, and the bodies of the line's components.
+#![tactic(auto)]
+
 pub mod bank;
 pub mod chart;
 mod components;

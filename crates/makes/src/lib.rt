@@ -1,4 +1,6 @@
 // The makes of generators: each is read from the bytes of a body, and is a generator.
+#![tactic(auto)]
+
 mod bytes;
 mod fits;
 pub mod generator;

@@ -1,2 +1,4 @@
 // The sizes of a line's walks, over any bank.
+#![tactic(auto)]
+
 pub mod sizes;

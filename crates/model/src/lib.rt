@@ -1,4 +1,6 @@
 // The words that every other crate uses: replies, kinds of events, sets of events, faults.
+#![tactic(auto)]
+
 pub mod fault;
 pub mod kind;
 pub mod next;

@@ -1,4 +1,6 @@
 // The examination of a line by the ten points, over any bank, in lent work cells.
+#![tactic(auto)]
+
 mod alphabets;
 mod answers;
 mod condition;

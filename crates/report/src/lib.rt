@@ -1,2 +1,4 @@
 // What is reported of a line file.
+#![tactic(auto)]
+
 pub mod verdict;

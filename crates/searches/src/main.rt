@@ -1,4 +1,6 @@
 // The searches of each walk of the lines that are named, with the time that they take. Without names it writes nothing.
+#![tactic(auto)]
+
 use anyhow::anyhow;
 use charts::chart::Chart;
 use generators::bank::Bank;

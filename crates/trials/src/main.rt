@@ -1,4 +1,6 @@
 // Trials: the verdict on each line file that is named.
+#![tactic(auto)]
+
 use report::verdict::Verdict;
 use std::{env, fs};
 

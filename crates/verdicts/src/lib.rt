@@ -1,3 +1,5 @@
 // What is reported of a line file.
+#![tactic(auto)]
+
 pub mod verdict;
 pub mod worked;
