@@ -14,7 +14,7 @@ toward-wanted-requires g c =
     let l = line_from c.args.chart.now (g.B.Bank.list c.args.bank.now) in
     let x = row_state c.args.row.now in
     let cells = lent c.args.queue.now c.args.keys.now in
-    let way = nearest-is l HighMarked x cells c.in-ok-nearest.field-0 c.in-ok-nearest.ensures.value in
+    let way = nearest-is l HighMarked x cells c.in_ok-nearest.field-0 c.in_ok-nearest.ensures.value in
     (guide-by l x c.in-By.event c.in-By.distance (sym c.in-By.is ∙ way)).0
 
 pub returns-in-Unreachable : goal.returns-in-Unreachable
@@ -22,7 +22,7 @@ returns-in-Unreachable g c =
     let l = line_from c.args.chart.now (g.B.Bank.list c.args.bank.now) in
     let x = row_state c.args.row.now in
     let cells = lent c.args.queue.now c.args.keys.now in
-    let way = nearest-is l HighMarked x cells c.in-ok-nearest.field-0 c.in-ok-nearest.ensures.value in
+    let way = nearest-is l HighMarked x cells c.in_ok-nearest.field-0 c.in_ok-nearest.ensures.value in
     record { value = guide-none l x (sym c.in-Unreachable.is ∙ way); succeeds = λ _. refl }
 
 pub returns-in-Here : goal.returns-in-Here
@@ -30,7 +30,7 @@ returns-in-Here g c =
     let l = line_from c.args.chart.now (g.B.Bank.list c.args.bank.now) in
     let x = row_state c.args.row.now in
     let cells = lent c.args.queue.now c.args.keys.now in
-    let way = nearest-is l HighMarked x cells c.in-ok-nearest.field-0 c.in-ok-nearest.ensures.value in
+    let way = nearest-is l HighMarked x cells c.in_ok-nearest.field-0 c.in_ok-nearest.ensures.value in
     let s = gives-on l x (lent c.nearest.new.queue c.nearest.new.keys) cells (λ l x. homeward l (first (suc l.chart.levels) (not_at_rest l x)) x) (λ l x. guide l x) c.toward_rest.result
     c.toward_rest.ensures (ap₂ min c.nearest.auto.queue c.nearest.auto.keys) (guide-here l x (sym c.in-Here.is ∙ way)) in
     record { value = s.value; succeeds = s.succeeds }
@@ -41,7 +41,7 @@ returns-in-By g c =
     let x = row_state c.args.row.now in
     let cells = lent c.args.queue.now c.args.keys.now in
     let e = c.in-By.event in
-    let way = nearest-is l HighMarked x cells c.in-ok-nearest.field-0 c.in-ok-nearest.ensures.value in
+    let way = nearest-is l HighMarked x cells c.in_ok-nearest.field-0 c.in_ok-nearest.ensures.value in
     let s = gives-on l x (lent c.nearest.new.queue c.nearest.new.keys) cells (λ l x. by_kind l (l.chart.kind e) e x) (λ l x. guide l x) c.toward-wanted.result
     c.toward-wanted.ensures (ap₂ min c.nearest.auto.queue c.nearest.auto.keys) (guide-by l x e c.in-By.distance (sym c.in-By.is ∙ way)).1 in
     record { value = s.value; succeeds = s.succeeds }

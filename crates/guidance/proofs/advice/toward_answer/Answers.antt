@@ -17,7 +17,7 @@ returns-in-Unreachable g c =
     let cells = lent c.args.queue.now c.args.keys.now in
     let j = c.args.level in
     let a = c.args.event in
-    let way = nearest-is l (Answer j a) x cells c.in-ok-nearest.field-0 c.in-ok-nearest.ensures.value in
+    let way = nearest-is l (Answer j a) x cells c.in_ok-nearest.field-0 c.in_ok-nearest.ensures.value in
     let left = lent c.nearest.new.queue c.nearest.new.keys in
     let same : left ≡ cells = ap₂ min c.nearest.auto.queue c.nearest.auto.keys in
     let none = sym c.in-Unreachable.is ∙ way in
@@ -30,7 +30,7 @@ returns-in-Here g c =
     let cells = lent c.args.queue.now c.args.keys.now in
     let j = c.args.level in
     let a = c.args.event in
-    let way = nearest-is l (Answer j a) x cells c.in-ok-nearest.field-0 c.in-ok-nearest.ensures.value in
+    let way = nearest-is l (Answer j a) x cells c.in_ok-nearest.field-0 c.in_ok-nearest.ensures.value in
     gives-ok l x cells (λ l x. answer_or l j a x (low_distance l j (to_answer l j a) x)) (Event a) (answer-here l x j a (sym c.in-Here.is ∙ way))
 
 pub returns-in-By : goal.returns-in-By
@@ -40,5 +40,5 @@ returns-in-By g c =
     let cells = lent c.args.queue.now c.args.keys.now in
     let j = c.args.level in
     let a = c.args.event in
-    let way = nearest-is l (Answer j a) x cells c.in-ok-nearest.field-0 c.in-ok-nearest.ensures.value in
+    let way = nearest-is l (Answer j a) x cells c.in_ok-nearest.field-0 c.in_ok-nearest.ensures.value in
     gives-ok l x cells (λ l x. answer_or l j a x (low_distance l j (to_answer l j a) x)) (Event c.in-By.event) (answer-by l x j a c.in-By.event c.in-By.distance (sym c.in-By.is ∙ way))

@@ -11,15 +11,15 @@ use Rattle.guidance.proofs.Rules.{gives-ok, gives-refused, rest-step}
 use Rattle.guidance.proofs.Ways.{nearest-is}
 use Rattle.guidance.proofs.advice.toward_rest.Goals as goal
 
-pub returns-in-err-way : goal.returns-in-err-way
-returns-in-err-way g c =
+pub returns-in_err-way : goal.returns-in_err-way
+returns-in_err-way g c =
     let l = line_from c.args.chart.now (g.B.Bank.list c.args.bank.now) in
     let x = row_state c.args.row.now in
     let cells = lent c.args.queue.now c.args.keys.now in
     let j = c.in-Some.level in
     let p = err_from_is_err_and c.from-residual.result c.from-residual.ensures.1 in
-    rw p.1 (gives-refused l x cells (λ l x. homeward l (first (suc l.chart.levels) (not_at_rest l x)) x) (AtRest j) c.in-err-way.field-0.0 p.0
-    (λ ready. ready.levels j (unrested-level l x j c.in-Some.ensures)) c.in-err-way.ensures.value)
+    rw p.1 (gives-refused l x cells (λ l x. homeward l (first (suc l.chart.levels) (not_at_rest l x)) x) (AtRest j) c.in_err-way.field-0.0 p.0
+    (λ ready. ready.levels j (unrested-level l x j c.in-Some.ensures)) c.in_err-way.ensures.value)
 
 pub returns : goal.returns
 returns g c =
@@ -27,6 +27,6 @@ returns g c =
     let x = row_state c.args.row.now in
     let cells = lent c.args.queue.now c.args.keys.now in
     let j = c.in-Some.level in
-    let way = c.in-ok-way.way in
+    let way = c.in_ok-way.way in
     gives-ok l x cells (λ l x. homeward l (first (suc l.chart.levels) (not_at_rest l x)) x) c.step.result
-    (c.step.ensures ∙ rest-step l x j way (nearest-is l (AtRest j) x cells way c.in-ok-way.ensures.value) c.in-Some.ensures)
+    (c.step.ensures ∙ rest-step l x j way (nearest-is l (AtRest j) x cells way c.in_ok-way.ensures.value) c.in-Some.ensures)

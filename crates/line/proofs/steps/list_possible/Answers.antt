@@ -8,7 +8,7 @@ use Rattle.walks.specs.Rows.{row_state}
 use Rattle.line.proofs.Answering.{refused-impossible}
 use Rattle.line.proofs.Listing.{Listing, listing_none, listing-skip, listing-put}
 use Rattle.line.proofs.steps.list_possible.Goals as goal
-use Rattle.line.proofs.steps.list_possible.Goals.{in-Ok, in-default}
+use Rattle.line.proofs.steps.list_possible.Goals.{in-Ok, in_default}
 
 pub loop-event-init : goal.loop-event-init
 loop-event-init g c =
@@ -28,10 +28,10 @@ loop-event-preserved g c =
           subst (λ (out : List ℕ). Listing can c.args.out.now out c.match-step.count (n + 1)) (sym w.out-is)
           (subst (λ (i : ℕ). Listing can c.args.out.now (set c.loop-event.out k n) i (n + 1)) (sym w.count-is)
           (listing-put can c.args.out.now c.loop-event.out k n (accepted_possible line x n w.in-Ok.ensures.0) room c.loop-event.invariant))
-      | in-default w ↦
+      | in_default w ↦
           subst (λ (out : List ℕ). Listing can c.args.out.now out c.match-step.count (n + 1)) (sym w.out-is)
           (subst (λ (i : ℕ). Listing can c.args.out.now c.loop-event.out i (n + 1)) (sym w.count-is)
-          (listing-skip can c.args.out.now c.loop-event.out k n (refused-impossible line x n w.in-default.field-0 w.in-default.ensures) c.loop-event.invariant))
+          (listing-skip can c.args.out.now c.loop-event.out k n (refused-impossible line x n w.in_default.field-0 w.in_default.ensures) c.loop-event.invariant))
     ]
 
 pub returns : goal.returns

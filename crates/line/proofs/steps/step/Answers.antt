@@ -13,14 +13,14 @@ returns-then-event-events g c =
     beyond-events (g.B.Bank.list c.args.bank.now) (g.B.Bank.formed c.args.bank.now) c.args.row.now c.args.event (chart_of c.args.chart.now)
     (omega (arith, c.events.ensures.value))
 
-pub returns-in-default : goal.returns-in-default
-returns-in-default g c =
+pub returns-in_default : goal.returns-in_default
+returns-in_default g c =
     let gens = g.B.Bank.list c.args.bank.now in
     let n = c.loop-component.component in
     let inside : c.args.event < (chart_of c.args.chart.now).events = omega (arith, c.events.ensures.value) in
     let few : n < 2 + 3 * (chart_of c.args.chart.now).levels = omega (arith, c.component-count-component-end.ensures.0) in
     refused-by gens (g.B.Bank.formed c.args.bank.now) c.args.row.now c.args.event (chart_of c.args.chart.now) inside n c.loop-component.states few
-    (sym (ap (λ (s : ℕ). followed ((get_or gens n nothing).next s c.args.event) s) c.state.ensures) ∙ sym c.in-default.ensures) c.loop-component.invariant.1
+    (sym (ap (λ (s : ℕ). followed ((get_or gens n nothing).next s c.args.event) s) c.state.ensures) ∙ sym c.in_default.ensures) c.loop-component.invariant.1
 
 pub loop-component-init : goal.loop-component-init
 loop-component-init g c =

@@ -8,8 +8,8 @@ use Rattle.linefile.specs.File.{component_reading}
 use Rattle.linefile.proofs.ComponentSteps as steps
 use Rattle.linefile.proofs.components.read_components.Goals as goal
 
-pub overflow-add-start : goal.overflow-add-start
-overflow-add-start c =
+pub overflow_add-start : goal.overflow_add-start
+overflow_add-start c =
     let z = steps.body-size c.args.levels c.args.file.now c.args.contents.now.bodies c.type-inv.contents c.requires.few c.requires.found c.requires.right 0 (omega arith) in
     let h = steps.start-next c.args.levels c.args.file.now c.args.contents.now.bodies c.type-inv.contents c.requires.few c.requires.found c.requires.right 0 (omega arith) in
     omega (arith, z, h)
@@ -25,20 +25,20 @@ overflow-cast-start c =
     c.loop-component.component c.loop-component.start (omega arith) c.loop-component.invariant.0 in
     omega (arith, h)
 
-pub returns-in-err-read-at : goal.returns-in-err-read-at
-returns-in-err-read-at c =
+pub returns-in_err-read-at : goal.returns-in_err-read-at
+returns-in_err-read-at c =
     let n : ℕ = c.args.levels in
     let f : List ℕ = c.args.file.now in
     let b = ap (λ k. (get_or c.args.contents.now.bodies (k + 1) steps.nowhere).now) c.from.ensures
     ∙ steps.body_is c.args.levels c.args.file.now c.args.contents.now.bodies c.type-inv.contents c.requires.few c.requires.found c.requires.right (c.loop-component.component + 1) (omega arith) in
-    let told = c.in-err-read-at.ensures
+    let told = c.in_err-read-at.ensures
     ∙ steps.component-told c.args.levels c.args.file.now c.args.contents.now.bodies c.type-inv.contents c.requires.few c.requires.found c.requires.right c.args.events c.loop-component.component c.loop-component.start _ c.loop-component.invariant.0 b in
     let p = err_from_is_err_and c.from-residual.result c.from-residual.ensures.1 in
     rw (p.1, p.2)
-    (sym (turn-off (component_reading n c.args.events f) c.loop-component.component c.in-err-read-at.field-0.0 c.loop-component.invariant.1 (sym told) (components n) (omega arith)))
+    (sym (turn-off (component_reading n c.args.events f) c.loop-component.component c.in_err-read-at.field-0.0 c.loop-component.invariant.1 (sym told) (components n) (omega arith)))
 
-pub overflow-add-start-in-loop-component : goal.overflow-add-start-in-loop-component
-overflow-add-start-in-loop-component c =
+pub overflow_add-start-in-loop-component : goal.overflow_add-start-in-loop-component
+overflow_add-start-in-loop-component c =
     let z = ap (λ k. length (get_or c.args.contents.now.bodies (k + 1) steps.nowhere).now) c.from.ensures
     ∙ steps.body-size c.args.levels c.args.file.now c.args.contents.now.bodies c.type-inv.contents c.requires.few c.requires.found c.requires.right (c.loop-component.component + 1) (omega arith) in
     let h = steps.start-next c.args.levels c.args.file.now c.args.contents.now.bodies c.type-inv.contents c.requires.few c.requires.found c.requires.right (c.loop-component.component + 1) (omega arith) in
@@ -50,8 +50,8 @@ loop-component-preserved c =
     ∙ steps.body-size c.args.levels c.args.file.now c.args.contents.now.bodies c.type-inv.contents c.requires.few c.requires.found c.requires.right (c.loop-component.component + 1) (omega arith) in
     let b = ap (λ k. (get_or c.args.contents.now.bodies (k + 1) steps.nowhere).now) c.from.ensures
     ∙ steps.body_is c.args.levels c.args.file.now c.args.contents.now.bodies c.type-inv.contents c.requires.few c.requires.found c.requires.right (c.loop-component.component + 1) (omega arith) in
-    let told = c.in-ok-read-at.ensures
+    let told = c.in_ok-read-at.ensures
     ∙ steps.component-told c.args.levels c.args.file.now c.args.contents.now.bodies c.type-inv.contents c.requires.few c.requires.found c.requires.right c.args.events c.loop-component.component c.loop-component.start _ c.loop-component.invariant.0 b in (
       steps.start-moves c.args.levels c.args.file.now c.args.contents.now.bodies c.type-inv.contents c.requires.few c.requires.found c.requires.right c.loop-component.component _ _ c.loop-component.invariant.0 z,
-      steps.component-on c.args.levels c.args.file.now c.args.contents.now.bodies c.type-inv.contents c.requires.few c.requires.found c.requires.right c.args.events c.loop-component.component (shape c.in-ok-read-at.field-0) c.loop-component.invariant.1 (sym told),
+      steps.component-on c.args.levels c.args.file.now c.args.contents.now.bodies c.type-inv.contents c.requires.few c.requires.found c.requires.right c.args.events c.loop-component.component (shape c.in_ok-read-at.field-0) c.loop-component.invariant.1 (sym told),
     )

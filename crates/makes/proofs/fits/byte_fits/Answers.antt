@@ -14,6 +14,6 @@ pub returns-in-I : goal.returns-in-I
 unfolding body_fits
 returns-in-I c = search rules
 
-pub returns-in-default : goal.returns-in-default
+pub returns-in_default : goal.returns-in_default
 unfolding body_fits
-returns-in-default c = search rules
+returns-in_default c = search rules

@@ -3,8 +3,8 @@ use Rattle.std.proofs.lemmas.List.{take_rest, get_or_past}
 use Rattle.makes.proofs.Parts.{table-parts, table-short}
 use Rattle.makes.proofs.make.cut_table.Goals as goal
 
-pub returns-in-default : goal.returns-in-default
-returns-in-default c =
+pub returns-in_default : goal.returns-in_default
+returns-in_default c =
     c.table-of.ensures
     ∙ table-short c.args.events c.args.body.now _ _ (omega (arith, ltb-true, ltb-false)) (sym (get_or_past c.args.body.now 1 0 (omega (arith, ltb-true, ltb-false)))) (sym (get_or_past c.args.body.now 2 0 (omega (arith, ltb-true, ltb-false))))
 

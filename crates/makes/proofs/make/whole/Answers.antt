@@ -12,8 +12,8 @@ overflow-cast-result c =
       size_small c.args.events c.args.body.now (omega arith) (omega (arith, c.type-inv.body 1)),
     )
 
-pub overflow-add-result : goal.overflow-add-result
-overflow-add-result c =
+pub overflow_add-result : goal.overflow_add-result
+overflow_add-result c =
     omega (
       arith,
       c.departure-place.ensures,

@@ -19,4 +19,4 @@ loop-component-preserved g c =
     let gens = g.B.Bank.list c.args.bank.now in
     let l = line_from c.args.chart.now gens in
     holds_more l c.loop-component.component (λ c. alphabet_known c ∷ []) c.loop-component.invariant
-    (known-all l c.loop-component.component (member c.alphabet.result.word) (c.alphabet.ensures gens) c.requires (omega (arith, c.levels.ensures.value)) c.in-default.ensures, tt)
+    (known-all l c.loop-component.component (member c.alphabet.result.word) (c.alphabet.ensures gens) c.requires (omega (arith, c.levels.ensures.value)) c.in_default.ensures, tt)

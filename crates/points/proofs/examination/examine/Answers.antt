@@ -10,20 +10,20 @@ use Rattle.walks.specs.Given.{line_from}
 use Rattle.points.proofs.Verdicts.{enough-cells, few-cells-of, judged, largest-of, unmeasured}
 use Rattle.points.proofs.examination.examine.Goals as goal
 
-pub returns-in-err-sizes : goal.returns-in-err-sizes
-returns-in-err-sizes g c =
+pub returns-in_err-sizes : goal.returns-in_err-sizes
+returns-in_err-sizes g c =
     let gens = g.B.Bank.list c.args.bank.now in
     let l = line_from c.args.chart.now (g.B.Bank.list c.args.bank.now) in
     let p = err_from_is_err_and c.from-residual.result c.from-residual.ensures.1 in
-    rw (p.1, p.2) (unmeasured l (length gens) (cells_in (length c.args.first.now) (length c.args.second.now) (length c.args.third.now)) _ c.in-err-sizes.ensures)
+    rw (p.1, p.2) (unmeasured l (length gens) (cells_in (length c.args.first.now) (length c.args.second.now) (length c.args.third.now)) _ c.in_err-sizes.ensures)
 
 pub returns-then-shortest-largest : goal.returns-then-shortest-largest
 returns-then-shortest-largest g c =
     let k = c.args.chart.now in
     let gens = g.B.Bank.list c.args.bank.now in
     let l = line_from c.args.chart.now (g.B.Bank.list c.args.bank.now) in
-    let q = c.in-ok-sizes.ensures in
-    let n : c.largest.result ≡ largest_walk l = c.largest.ensures ∙ largest-of l (well-charted k).few_levels c.in-ok-sizes.sizes q.1 in
+    let q = c.in_ok-sizes.ensures in
+    let n : c.largest.result ≡ largest_walk l = c.largest.ensures ∙ largest-of l (well-charted k).few_levels c.in_ok-sizes.sizes q.1 in
     few_cells q.0
     (few-cells-of l (length c.args.first.now) (length c.args.second.now) (length c.args.third.now) (omega (arith, n)))
 
@@ -32,8 +32,8 @@ ten-points-requires g c =
     let k = c.args.chart.now in
     let gens = g.B.Bank.list c.args.bank.now in
     let l = line_from c.args.chart.now (g.B.Bank.list c.args.bank.now) in
-    let q = c.in-ok-sizes.ensures in
-    let n : c.largest.result ≡ largest_walk l = c.largest.ensures ∙ largest-of l (well-charted k).few_levels c.in-ok-sizes.sizes q.1 in
+    let q = c.in_ok-sizes.ensures in
+    let n : c.largest.result ≡ largest_walk l = c.largest.ensures ∙ largest-of l (well-charted k).few_levels c.in_ok-sizes.sizes q.1 in
     record {
       made = well-made (chart_of k) gens (well-charted k) (g.B.Bank.formed c.args.bank.now) q.0.complete;
       lows = q.0.lows;
@@ -48,8 +48,8 @@ returns g c =
     let k = c.args.chart.now in
     let gens = g.B.Bank.list c.args.bank.now in
     let l = line_from c.args.chart.now (g.B.Bank.list c.args.bank.now) in
-    let q = c.in-ok-sizes.ensures in
-    let n : c.largest.result ≡ largest_walk l = c.largest.ensures ∙ largest-of l (well-charted k).few_levels c.in-ok-sizes.sizes q.1 in
+    let q = c.in_ok-sizes.ensures in
+    let n : c.largest.result ≡ largest_walk l = c.largest.ensures ∙ largest-of l (well-charted k).few_levels c.in_ok-sizes.sizes q.1 in
     judged l (length gens) (cells_in (length c.args.first.now) (length c.args.second.now) (length c.args.third.now)) q.0
     (enough-cells l (length c.args.first.now) (length c.args.second.now) (length c.args.third.now) (omega (arith, n)) (omega (arith, n)) (omega (arith, n)))
     c.ten-points.result c.ten-points.ensures

@@ -7,29 +7,29 @@ use Rattle.points.proofs.Listing.{fails-left, fails-right, tried-after}
 use Rattle.points.proofs.Verdicts.{low-largest}
 use Rattle.points.proofs.examination.ten_points.Goals as goal
 
-pub returns-in-err-alphabets-known : goal.returns-in-err-alphabets-known
-returns-in-err-alphabets-known g c =
+pub returns-in_err-alphabets-known : goal.returns-in_err-alphabets-known
+returns-in_err-alphabets-known g c =
     let l = line_from c.args.chart.now (g.B.Bank.list c.args.bank.now) in
     let p = err_from_is_err_and c.from-residual.result c.from-residual.ensures.1 in
-    rw (p.1, p.2) (fails-left l (listed (components l) (λ c. alphabet_known c ∷ [])) ((listed l.chart.levels (λ i. command_pair (suc i) ∷ [])) ++ ((listed l.chart.levels (λ i. level_tests (suc i))) ++ (answers_accepted ∷ high_nonblocking ∷ high_controllable ∷ []))) _ c.in-err-alphabets-known.ensures)
+    rw (p.1, p.2) (fails-left l (listed (components l) (λ c. alphabet_known c ∷ [])) ((listed l.chart.levels (λ i. command_pair (suc i) ∷ [])) ++ ((listed l.chart.levels (λ i. level_tests (suc i))) ++ (answers_accepted ∷ high_nonblocking ∷ high_controllable ∷ []))) _ c.in_err-alphabets-known.ensures)
 
-pub returns-in-err-command-pairs : goal.returns-in-err-command-pairs
-returns-in-err-command-pairs g c =
+pub returns-in_err-command-pairs : goal.returns-in_err-command-pairs
+returns-in_err-command-pairs g c =
     let l = line_from c.args.chart.now (g.B.Bank.list c.args.bank.now) in
-    let p = err_from_is_err_and c.from-residual-in-err-command-pairs.result c.from-residual-in-err-command-pairs.ensures.1 in
-    rw (p.1, p.2) (fails-right l (listed (components l) (λ c. alphabet_known c ∷ [])) ((listed l.chart.levels (λ i. command_pair (suc i) ∷ [])) ++ ((listed l.chart.levels (λ i. level_tests (suc i))) ++ (answers_accepted ∷ high_nonblocking ∷ high_controllable ∷ []))) _ c.in-ok-alphabets-known.ensures (fails-left l (listed l.chart.levels (λ i. command_pair (suc i) ∷ [])) ((listed l.chart.levels (λ i. level_tests (suc i))) ++ (answers_accepted ∷ high_nonblocking ∷ high_controllable ∷ [])) _ c.in-err-command-pairs.ensures))
+    let p = err_from_is_err_and c.from-residual-in_err-command-pairs.result c.from-residual-in_err-command-pairs.ensures.1 in
+    rw (p.1, p.2) (fails-right l (listed (components l) (λ c. alphabet_known c ∷ [])) ((listed l.chart.levels (λ i. command_pair (suc i) ∷ [])) ++ ((listed l.chart.levels (λ i. level_tests (suc i))) ++ (answers_accepted ∷ high_nonblocking ∷ high_controllable ∷ []))) _ c.in_ok-alphabets-known.ensures (fails-left l (listed l.chart.levels (λ i. command_pair (suc i) ∷ [])) ((listed l.chart.levels (λ i. level_tests (suc i))) ++ (answers_accepted ∷ high_nonblocking ∷ high_controllable ∷ [])) _ c.in_err-command-pairs.ensures))
 
-pub returns-in-err-low-points : goal.returns-in-err-low-points
-returns-in-err-low-points g c =
+pub returns-in_err-low-points : goal.returns-in_err-low-points
+returns-in_err-low-points g c =
     let l = line_from c.args.chart.now (g.B.Bank.list c.args.bank.now) in
-    let p = err_from_is_err_and c.from-residual-in-err-low-points.result c.from-residual-in-err-low-points.ensures.1 in
-    rw (p.1, p.2) (fails-right l (listed (components l) (λ c. alphabet_known c ∷ [])) ((listed l.chart.levels (λ i. command_pair (suc i) ∷ [])) ++ ((listed l.chart.levels (λ i. level_tests (suc i))) ++ (answers_accepted ∷ high_nonblocking ∷ high_controllable ∷ []))) _ c.in-ok-alphabets-known.ensures (fails-right l (listed l.chart.levels (λ i. command_pair (suc i) ∷ [])) ((listed l.chart.levels (λ i. level_tests (suc i))) ++ (answers_accepted ∷ high_nonblocking ∷ high_controllable ∷ [])) _ c.in-ok-command-pairs.ensures (fails-left l (listed l.chart.levels (λ i. level_tests (suc i))) (answers_accepted ∷ high_nonblocking ∷ high_controllable ∷ []) _ c.in-err-low-points.ensures)))
+    let p = err_from_is_err_and c.from-residual-in_err-low-points.result c.from-residual-in_err-low-points.ensures.1 in
+    rw (p.1, p.2) (fails-right l (listed (components l) (λ c. alphabet_known c ∷ [])) ((listed l.chart.levels (λ i. command_pair (suc i) ∷ [])) ++ ((listed l.chart.levels (λ i. level_tests (suc i))) ++ (answers_accepted ∷ high_nonblocking ∷ high_controllable ∷ []))) _ c.in_ok-alphabets-known.ensures (fails-right l (listed l.chart.levels (λ i. command_pair (suc i) ∷ [])) ((listed l.chart.levels (λ i. level_tests (suc i))) ++ (answers_accepted ∷ high_nonblocking ∷ high_controllable ∷ [])) _ c.in_ok-command-pairs.ensures (fails-left l (listed l.chart.levels (λ i. level_tests (suc i))) (answers_accepted ∷ high_nonblocking ∷ high_controllable ∷ []) _ c.in_err-low-points.ensures)))
 
 pub returns : goal.returns
 returns g c =
     let l = line_from c.args.chart.now (g.B.Bank.list c.args.bank.now) in
     let r = c.high-points.result in
-    tried-after l (listed (components l) (λ c. alphabet_known c ∷ [])) ((listed l.chart.levels (λ i. command_pair (suc i) ∷ [])) ++ ((listed l.chart.levels (λ i. level_tests (suc i))) ++ (answers_accepted ∷ high_nonblocking ∷ high_controllable ∷ []))) r c.in-ok-alphabets-known.ensures (tried-after l (listed l.chart.levels (λ i. command_pair (suc i) ∷ [])) ((listed l.chart.levels (λ i. level_tests (suc i))) ++ (answers_accepted ∷ high_nonblocking ∷ high_controllable ∷ [])) r c.in-ok-command-pairs.ensures (tried-after l (listed l.chart.levels (λ i. level_tests (suc i))) (answers_accepted ∷ high_nonblocking ∷ high_controllable ∷ []) r c.in-ok-low-points.ensures c.high-points.ensures))
+    tried-after l (listed (components l) (λ c. alphabet_known c ∷ [])) ((listed l.chart.levels (λ i. command_pair (suc i) ∷ [])) ++ ((listed l.chart.levels (λ i. level_tests (suc i))) ++ (answers_accepted ∷ high_nonblocking ∷ high_controllable ∷ []))) r c.in_ok-alphabets-known.ensures (tried-after l (listed l.chart.levels (λ i. command_pair (suc i) ∷ [])) ((listed l.chart.levels (λ i. level_tests (suc i))) ++ (answers_accepted ∷ high_nonblocking ∷ high_controllable ∷ [])) r c.in_ok-command-pairs.ensures (tried-after l (listed l.chart.levels (λ i. level_tests (suc i))) (answers_accepted ∷ high_nonblocking ∷ high_controllable ∷ []) r c.in_ok-low-points.ensures c.high-points.ensures))
 
 pub command-pairs-requires : goal.command-pairs-requires
 command-pairs-requires g c =

@@ -8,30 +8,30 @@ use Rattle.verdicts.specs.Verdicts.{unread, told_in}
 use Rattle.verdicts.proofs.Telling.{chart-unread, bank-unread, line_read, told-so, law-kept}
 use Rattle.verdicts.proofs.verdict.read_and_judge.Goals as goal
 
-pub returns-in-err-chart : goal.returns-in-err-chart
-returns-in-err-chart c =
+pub returns-in_err-chart : goal.returns-in_err-chart
+returns-in_err-chart c =
     let p = err_from_is_err_and c.from-residual.result c.from-residual.ensures.1 in
     rw (p.1, p.2)
-    (record { answer = unread (chart-unread c.args.file.now c.in-err-chart.field-0.0 (sym c.in-err-chart.ensures)); law = tt })
+    (record { answer = unread (chart-unread c.args.file.now c.in_err-chart.field-0.0 (sym c.in_err-chart.ensures)); law = tt })
 
-pub returns-in-err-bank : goal.returns-in-err-bank
-returns-in-err-bank c =
-    let p = err_from_is_err_and c.from-residual-in-err-bank.result c.from-residual-in-err-bank.ensures.1 in
-    let k = c.in-ok-chart.chart in
+pub returns-in_err-bank : goal.returns-in_err-bank
+returns-in_err-bank c =
+    let p = err_from_is_err_and c.from-residual-in_err-bank.result c.from-residual-in_err-bank.ensures.1 in
+    let k = c.in_ok-chart.chart in
     rw (p.1, p.2)
     (record {
-      answer = unread (bank-unread c.args.file.now (chart_of k) (sym c.in-ok-chart.ensures) c.in-err-bank.field-0.0 (sym c.in-err-bank.ensures));
+      answer = unread (bank-unread c.args.file.now (chart_of k) (sym c.in_ok-chart.ensures) c.in_err-bank.field-0.0 (sym c.in_err-bank.ensures));
       law = tt;
     })
 
 pub returns : goal.returns
 returns c =
     let file = c.args.file.now in
-    let k = c.in-ok-chart.chart in
-    let b = c.in-ok-bank.bank in
+    let k = c.in_ok-chart.chart in
+    let b = c.in_ok-bank.bank in
     let gens = list_from b.len b.events b.alphabets (texts b.bodies) in
     let cells = cells_in (length c.args.first.now) (length c.args.second.now) (length c.args.third.now) in
-    let read = line_read file (chart_of k) (sym c.in-ok-chart.ensures) gens (sym c.in-ok-bank.ensures) in
+    let read = line_read file (chart_of k) (sym c.in_ok-chart.ensures) gens (sym c.in_ok-bank.ensures) in
     record {
       answer = told-so file _ read cells (told_in c.judge.result) c.judge.ensures.answer;
       law = law-kept file _ read cells c.judge.result c.judge.ensures.law;

@@ -7,8 +7,8 @@ returns-then-event-self c = let none = kind-none c.args.self.now c.args.event (o
 
 pub returns : goal.returns
 returns c =
-    let owned = c.level-alphabet.ensures c.args.event in
-    let request = c.all-requests.ensures c.args.event in
-    let answer = c.all-answers.ensures c.args.event in
+    let owned = c.level_alphabet.ensures c.args.event in
+    let request = c.all_requests.ensures c.args.event in
+    let answer = c.all_answers.ensures c.args.event in
     let kind = kind-at c.args.self.now c.args.event (omega arith) in
     cc

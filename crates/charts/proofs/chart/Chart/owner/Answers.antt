@@ -11,4 +11,4 @@ returns-else-contains c =
     owner-none c.args.self.now c.args.event
     (λ j h.
     below_more (λ (k : ℕ). in_level (chart_of c.args.self.now) k c.args.event ≡ false) c.loop-level.level c.loop-level.invariant
-    (sym (c.if-contains.ensures ∙ c.level-alphabet.ensures c.args.event)) j (omega arith))
+    (sym (c.if-contains.ensures ∙ c.level_alphabet.ensures c.args.event)) j (omega arith))

@@ -6,36 +6,36 @@ use Rattle.points.specs.Examined.{cells_in}
 use Rattle.line.specs.Answers.{Answered}
 use Rattle.line.proofs.Homing.{same-cells, going-none, going_more, going-accepted, going-home, going-short}
 use Rattle.line.proofs.running.Running.go_home.Goals as goal
-use Rattle.line.proofs.running.Running.go_home.Goals.{else-loop-offers-test, then-loop-offers-test+in-ok-event+in-Event+in-ok-offer+else·-offers-offers·end}
+use Rattle.line.proofs.running.Running.go_home.Goals.{else-loop-offers-test, then-loop-offers-test+in_ok-event+in-Event+in_ok-offer+else·-offers-offers·end}
 
 pub loop-offers-init : goal.loop-offers-init
 loop-offers-init g c =
     going-none g.B.Bank.list c.args.self.now (cells_in (length c.args.first.now) (length c.args.second.now) (length c.args.third.now))
 
-pub returns-in-err-event : goal.returns-in-err-event
-returns-in-err-event g c =
+pub returns-in_err-event : goal.returns-in_err-event
+returns-in_err-event g c =
     let cells = cells_in (length c.args.first.now) (length c.args.second.now) (length c.args.third.now) in
     let used = cells_in (length c.loop-offers.first) (length c.loop-offers.second) (length c.loop-offers.third) in
     let lent = same-cells _ _ _ _ _ _ c.loop-offers.auto.first c.loop-offers.auto.second c.loop-offers.auto.third in
     let p = err_from_is_err_and c.from-residual.result c.from-residual.ensures.1 in
-    rw (p.1, p.2) (going-short g.B.Bank.list c.args.self.now cells c.loop-offers.self c.loop-offers.offers c.loop-offers.invariant used lent c.in-err-event.field-0.0 c.in-err-event.ensures)
+    rw (p.1, p.2) (going-short g.B.Bank.list c.args.self.now cells c.loop-offers.self c.loop-offers.offers c.loop-offers.invariant used lent c.in_err-event.field-0.0 c.in_err-event.ensures)
 
-pub returns-in-default : goal.returns-in-default
-returns-in-default g c =
+pub returns-in_default : goal.returns-in_default
+returns-in_default g c =
     let cells = cells_in (length c.args.first.now) (length c.args.second.now) (length c.args.third.now) in
     let used = cells_in (length c.loop-offers.first) (length c.loop-offers.second) (length c.loop-offers.third) in
     let lent = same-cells _ _ _ _ _ _ c.loop-offers.auto.first c.loop-offers.auto.second c.loop-offers.auto.third in
-    going-home g.B.Bank.list c.args.self.now cells c.loop-offers.self c.loop-offers.offers c.loop-offers.invariant used lent c.in-ok-event.field-0 c.in-default.not-Event c.in-ok-event.ensures
+    going-home g.B.Bank.list c.args.self.now cells c.loop-offers.self c.loop-offers.offers c.loop-offers.invariant used lent c.in_ok-event.field-0 c.in_default.not-Event c.in_ok-event.ensures
 
-pub returns-in-err-offer : goal.returns-in-err-offer
-returns-in-err-offer g c =
+pub returns-in_err-offer : goal.returns-in_err-offer
+returns-in_err-offer g c =
     let list = g.B.Bank.list in
     let s = c.loop-offers.self in
     let cells = cells_in (length c.args.first.now) (length c.args.second.now) (length c.args.third.now) in
     let used = cells_in (length c.loop-offers.first) (length c.loop-offers.second) (length c.loop-offers.third) in
     let lent = same-cells _ _ _ _ _ _ c.loop-offers.auto.first c.loop-offers.auto.second c.loop-offers.auto.third in
-    let named = subst (λ (x : Guidance). Answered list s s (Guide used) (guidance x)) c.in-Event.is c.in-ok-event.ensures in
-    absurd (going-accepted list c.args.self.now cells s c.loop-offers.offers c.loop-offers.invariant used lent c.offer.new.self c.in-Event.event c.in-err-offer.field-0.0 named c.in-err-offer.ensures)
+    let named = subst (λ (x : Guidance). Answered list s s (Guide used) (guidance x)) c.in-Event.is c.in_ok-event.ensures in
+    absurd (going-accepted list c.args.self.now cells s c.loop-offers.offers c.loop-offers.invariant used lent c.offer.new.self c.in-Event.event c.in_err-offer.field-0.0 named c.in_err-offer.ensures)
 
 pub loop-offers-preserved : goal.loop-offers-preserved
 loop-offers-preserved g c =
@@ -44,8 +44,8 @@ loop-offers-preserved g c =
     let cells = cells_in (length c.args.first.now) (length c.args.second.now) (length c.args.third.now) in
     let used = cells_in (length c.loop-offers.first) (length c.loop-offers.second) (length c.loop-offers.third) in
     let lent = same-cells _ _ _ _ _ _ c.loop-offers.auto.first c.loop-offers.auto.second c.loop-offers.auto.third in
-    let named = subst (λ (x : Guidance). Answered list s s (Guide used) (guidance x)) c.in-Event.is c.in-ok-event.ensures in
-    going_more list c.args.self.now cells s c.loop-offers.offers c.loop-offers.invariant used lent c.offer.new.self c.in-Event.event named c.in-ok-offer.ensures
+    let named = subst (λ (x : Guidance). Answered list s s (Guide used) (guidance x)) c.in-Event.is c.in_ok-event.ensures in
+    going_more list c.args.self.now cells s c.loop-offers.offers c.loop-offers.invariant used lent c.offer.new.self c.in-Event.event named c.in_ok-offer.ensures
 
 pub unreachable-requires : goal.unreachable-requires
 unreachable-requires g c =
@@ -56,8 +56,8 @@ unreachable-requires g c =
     let lent = same-cells _ _ _ _ _ _ c.loop-offers.auto.first c.loop-offers.auto.second c.loop-offers.auto.third in
     elim c.loop-offers-test.branch [
       | else-loop-offers-test w ↦ omega arith
-      | then-loop-offers-test+in-ok-event+in-Event+in-ok-offer+else·-offers-offers·end w ↦
-          let named = subst (λ (x : Guidance). Answered list s s (Guide used) (guidance x)) w.in-Event.is w.in-ok-event.ensures in
-          let more = going_more list c.args.self.now cells s c.loop-offers.offers c.loop-offers.invariant used lent w.offer.new.self w.in-Event.event named w.in-ok-offer.ensures in
+      | then-loop-offers-test+in_ok-event+in-Event+in_ok-offer+else·-offers-offers·end w ↦
+          let named = subst (λ (x : Guidance). Answered list s s (Guide used) (guidance x)) w.in-Event.is w.in_ok-event.ensures in
+          let more = going_more list c.args.self.now cells s c.loop-offers.offers c.loop-offers.invariant used lent w.offer.new.self w.in-Event.event named w.in_ok-offer.ensures in
           omega (arith, more.few, c.most-offers-offers-end.ensures)
     ]

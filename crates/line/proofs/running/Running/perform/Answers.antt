@@ -6,7 +6,7 @@ use Rattle.line.specs.declared.queue.Reply.{Reply}
 use Rattle.line.proofs.Homing.{same-cells}
 use Rattle.line.proofs.Performing.{Performing, refused-is, performing-none, performing-more, performing-all}
 use Rattle.line.proofs.running.Running.perform.Goals as goal
-use Rattle.line.proofs.running.Running.perform.Goals.{in-Refused, in-default}
+use Rattle.line.proofs.running.Running.perform.Goals.{in-Refused, in_default}
 
 pub loop-call-init : goal.loop-call-init
 loop-call-init g c =
@@ -29,11 +29,11 @@ loop-call-preserved g c =
           subst (Performing list first bytes cells queue last (i + 1)) (sym w.refused-is)
           (performing-more list first bytes cells queue c.loop-call.self last i n (Offer 0) (length c.loop-call.out) used c.loop-call.auto.out lent (reply_of c.answer.new.out c.answer.result) true
           (ap (λ (r : Reply). is_refused (reply_of c.answer.new.out r)) w.in-Refused.is) c.loop-call-test.true c.answer.ensures c.loop-call.invariant)
-      | in-default w ↦
+      | in_default w ↦
           let none : c.match-answer.refused ≡ n + 0 = omega (arith, w.refused-is) in
           subst (Performing list first bytes cells queue last (i + 1)) (sym none)
           (performing-more list first bytes cells queue c.loop-call.self last i n (Offer 0) (length c.loop-call.out) used c.loop-call.auto.out lent (reply_of c.answer.new.out c.answer.result) false
-          (refused-is c.answer.new.out c.answer.result w.in-default.not-Refused) c.loop-call-test.true c.answer.ensures c.loop-call.invariant)
+          (refused-is c.answer.new.out c.answer.result w.in_default.not-Refused) c.loop-call-test.true c.answer.ensures c.loop-call.invariant)
     ]
 
 pub returns : goal.returns

@@ -7,76 +7,76 @@ use Rattle.linefile.proofs.FileSteps.{chart-header, chart-contents, chart-rows, 
 use Rattle.linefile.proofs.Same.{list_same, rows-sizes, contents-right, header-small}
 use Rattle.linefile.proofs.bank.FileBank.read.Goals as goal
 
-pub returns-in-err-header : goal.returns-in-err-header
-returns-in-err-header c =
+pub returns-in_err-header : goal.returns-in_err-header
+returns-in_err-header c =
     let p = err_from_is_err_and c.from-residual.result c.from-residual.ensures.1 in
-    let e = c.in-err-header.field-0.0 in
-    rw (p.1, p.2) (bank-chart c.args.file.now e (chart-header c.args.file.now e c.in-err-header.ensures))
+    let e = c.in_err-header.field-0.0 in
+    rw (p.1, p.2) (bank-chart c.args.file.now e (chart-header c.args.file.now e c.in_err-header.ensures))
 
-pub returns-in-err-contents : goal.returns-in-err-contents
-returns-in-err-contents c =
-    let p = err_from_is_err_and c.from-residual-in-err-contents.result c.from-residual-in-err-contents.ensures.1 in
-    let e = c.in-err-contents.field-0.0 in
+pub returns-in_err-contents : goal.returns-in_err-contents
+returns-in_err-contents c =
+    let p = err_from_is_err_and c.from-residual-in_err-contents.result c.from-residual-in_err-contents.ensures.1 in
+    let e = c.in_err-contents.field-0.0 in
     rw (p.1, p.2)
     (bank-chart c.args.file.now e
-    (chart-contents c.args.file.now (header_meaning c.in-ok-header.header) c.in-ok-header.ensures
-    c.levels-levels.result c.events-events.result c.levels-levels.ensures.value c.events-events.ensures.value e c.in-err-contents.ensures.told))
+    (chart-contents c.args.file.now (header_meaning c.in_ok-header.header) c.in_ok-header.ensures
+    c.levels-levels.result c.events-events.result c.levels-levels.ensures.value c.events-events.ensures.value e c.in_err-contents.ensures.told))
 
-pub returns-in-err-chart : goal.returns-in-err-chart
-returns-in-err-chart c =
-    let p = err_from_is_err_and c.from-residual-in-err-chart.result c.from-residual-in-err-chart.ensures.1 in
-    let e = c.in-err-chart.field-0.0 in
-    let n = c.in-ok-contents.ensures.found.1 in
+pub returns-in_err-chart : goal.returns-in_err-chart
+returns-in_err-chart c =
+    let p = err_from_is_err_and c.from-residual-in_err-chart.result c.from-residual-in_err-chart.ensures.1 in
+    let e = c.in_err-chart.field-0.0 in
+    let n = c.in_ok-contents.ensures.found.1 in
     rw (p.1, p.2)
     (bank-chart c.args.file.now e
-    (c.in-err-chart.ensures
-    ∙ chart-rows c.args.file.now (header_meaning c.in-ok-header.header) c.in-ok-header.ensures
+    (c.in_err-chart.ensures
+    ∙ chart-rows c.args.file.now (header_meaning c.in_ok-header.header) c.in_ok-header.ensures
     c.levels-levels.result c.events-events.result c.levels-levels.ensures.value c.events-events.ensures.value
-    c.in-ok-contents.ensures.told _ _
-    (sym (text_at c.in-ok-contents.contents.bodies 0 _ (omega (arith, n))) ∙ c.in-ok-contents.ensures.found.0 0 (omega arith))
+    c.in_ok-contents.ensures.told _ _
+    (sym (text_at c.in_ok-contents.contents.bodies 0 _ (omega (arith, n))) ∙ c.in_ok-contents.ensures.found.0 0 (omega arith))
     c.contents-end.ensures))
 
 pub read-components-requires : goal.read-components-requires
 read-components-requires c = record {
   few = c.levels-levels.ensures.bounds.1;
-  small = header-small c.args.file.now (header_meaning c.in-ok-header.header) c.in-ok-header.ensures;
-  found = c.in-ok-contents.ensures.found.0;
-  right = contents-right c.levels-levels.result c.events-events.result c.args.file.now c.in-ok-contents.ensures.told;
+  small = header-small c.args.file.now (header_meaning c.in_ok-header.header) c.in_ok-header.ensures;
+  found = c.in_ok-contents.ensures.found.0;
+  right = contents-right c.levels-levels.result c.events-events.result c.args.file.now c.in_ok-contents.ensures.told;
 }
 
 -- the chart that was read is the file's, and has the sizes of the header
-pub returns-in-err-read-components : goal.returns-in-err-read-components
-returns-in-err-read-components c =
-    let p = err_from_is_err_and c.from-residual-in-err-read-components.result c.from-residual-in-err-read-components.ensures.1 in
-    let e = c.in-err-read-components.field-0.0 in
-    let n = c.in-ok-contents.ensures.found.1 in
-    let s = header_meaning c.in-ok-header.header in
-    let z = rows-sizes s.levels s.events _ _ (chart_of c.in-ok-chart.chart) c.in-ok-chart.ensures in
+pub returns-in_err-read-components : goal.returns-in_err-read-components
+returns-in_err-read-components c =
+    let p = err_from_is_err_and c.from-residual-in_err-read-components.result c.from-residual-in_err-read-components.ensures.1 in
+    let e = c.in_err-read-components.field-0.0 in
+    let n = c.in_ok-contents.ensures.found.1 in
+    let s = header_meaning c.in_ok-header.header in
+    let z = rows-sizes s.levels s.events _ _ (chart_of c.in_ok-chart.chart) c.in_ok-chart.ensures in
     rw (p.1, p.2)
-    (bank-components c.args.file.now (chart_of c.in-ok-chart.chart)
-    (c.in-ok-chart.ensures
-    ∙ chart-rows c.args.file.now s c.in-ok-header.ensures
+    (bank-components c.args.file.now (chart_of c.in_ok-chart.chart)
+    (c.in_ok-chart.ensures
+    ∙ chart-rows c.args.file.now s c.in_ok-header.ensures
     c.levels-levels.result c.events-events.result c.levels-levels.ensures.value c.events-events.ensures.value
-    c.in-ok-contents.ensures.told _ _
-    (sym (text_at c.in-ok-contents.contents.bodies 0 _ (omega (arith, n))) ∙ c.in-ok-contents.ensures.found.0 0 (omega arith))
+    c.in_ok-contents.ensures.told _ _
+    (sym (text_at c.in_ok-contents.contents.bodies 0 _ (omega (arith, n))) ∙ c.in_ok-contents.ensures.found.0 0 (omega arith))
     c.contents-end.ensures)
     c.levels-levels.result c.events-events.result (c.levels-levels.ensures.value ∙ z.0) (c.events-events.ensures.value ∙ z.1)
-    e c.in-err-read-components.ensures)
+    e c.in_err-read-components.ensures)
 
 pub returns : goal.returns
 returns c =
-    let n = c.in-ok-contents.ensures.found.1 in
-    let s = header_meaning c.in-ok-header.header in
-    let z = rows-sizes s.levels s.events _ _ (chart_of c.in-ok-chart.chart) c.in-ok-chart.ensures in
-    bank-whole c.args.file.now (chart_of c.in-ok-chart.chart)
-    (c.in-ok-chart.ensures
-    ∙ chart-rows c.args.file.now s c.in-ok-header.ensures
+    let n = c.in_ok-contents.ensures.found.1 in
+    let s = header_meaning c.in_ok-header.header in
+    let z = rows-sizes s.levels s.events _ _ (chart_of c.in_ok-chart.chart) c.in_ok-chart.ensures in
+    bank-whole c.args.file.now (chart_of c.in_ok-chart.chart)
+    (c.in_ok-chart.ensures
+    ∙ chart-rows c.args.file.now s c.in_ok-header.ensures
     c.levels-levels.result c.events-events.result c.levels-levels.ensures.value c.events-events.ensures.value
-    c.in-ok-contents.ensures.told _ _
-    (sym (text_at c.in-ok-contents.contents.bodies 0 _ (omega (arith, n))) ∙ c.in-ok-contents.ensures.found.0 0 (omega arith))
+    c.in_ok-contents.ensures.told _ _
+    (sym (text_at c.in_ok-contents.contents.bodies 0 _ (omega (arith, n))) ∙ c.in_ok-contents.ensures.found.0 0 (omega arith))
     c.contents-end.ensures)
     c.levels-levels.result c.events-events.result (c.levels-levels.ensures.value ∙ z.0) (c.events-events.ensures.value ∙ z.1)
-    _ c.in-ok-read-components.ensures
-    (list_same c.levels-levels.result c.events-events.result (chart_of c.in-ok-chart.chart) c.args.file.now c.alphabets.result
-    (texts c.in-ok-contents.contents.bodies) c.levels-levels.ensures.bounds.1 (c.levels-levels.ensures.value ∙ z.0) (c.events-events.ensures.value ∙ z.1)
-    c.alphabets.ensures c.in-ok-contents.ensures.found.0)
+    _ c.in_ok-read-components.ensures
+    (list_same c.levels-levels.result c.events-events.result (chart_of c.in_ok-chart.chart) c.args.file.now c.alphabets.result
+    (texts c.in_ok-contents.contents.bodies) c.levels-levels.ensures.bounds.1 (c.levels-levels.ensures.value ∙ z.0) (c.events-events.ensures.value ∙ z.1)
+    c.alphabets.ensures c.in_ok-contents.ensures.found.0)

@@ -20,18 +20,18 @@ loop-left-init c =
       refl,
     )
 
-pub returns-in-err-body : goal.returns-in-err-body
-returns-in-err-body c =
+pub returns-in_err-body : goal.returns-in_err-body
+returns-in_err-body c =
     let f : List ℕ = c.args.file.now in
     let n : ℕ = c.args.levels in
     let left : List ℕ = c.loop-left.left.now in
     let s = c.number-start.ensures ∙ start_is f left c.loop-left.row (omega (arith, ltb-false)) c.loop-left.invariant.3 in
     let z = c.number-size.ensures ∙ length-is f left c.loop-left.row (omega (arith, ltb-false)) c.loop-left.invariant.3 in
-    let off = row-off n f c.loop-left.row _ _ _ s z c.loop-left.invariant.5 c.in-err-body.field-0.0 c.in-err-body.ensures in
+    let off = row-off n f c.loop-left.row _ _ _ s z c.loop-left.invariant.5 c.in_err-body.field-0.0 c.in_err-body.ensures in
     let p = err_from_is_err_and c.from-residual.result c.from-residual.ensures.1 in
     rw (p.1, p.2)
     (record {
-      told = sym (turn-off (row_reading n f) c.loop-left.row c.in-err-body.field-0.0 c.loop-left.invariant.6 off (rows n) (omega (arith, ltb-false)));
+      told = sym (turn-off (row_reading n f) c.loop-left.row c.in_err-body.field-0.0 c.loop-left.invariant.6 off (rows n) (omega (arith, ltb-false)));
       laid = tt;
     })
 
@@ -43,12 +43,12 @@ loop-left-preserved c =
     let m = past-length 4 left in
     let s = c.number-start.ensures ∙ start_is f left c.loop-left.row (omega (arith, ltb-false)) c.loop-left.invariant.3 in
     let z = c.number-size.ensures ∙ length-is f left c.loop-left.row (omega (arith, ltb-false)) c.loop-left.invariant.3 in
-    let on = row_on n f c.loop-left.row _ _ _ s z c.loop-left.invariant.5 c.in-ok-body.body.now c.in-ok-body.ensures in (
+    let on = row_on n f c.loop-left.row _ _ _ s z c.loop-left.invariant.5 c.in_ok-body.body.now c.in_ok-body.ensures in (
       omega (arith, ltb-false),
       on.ends,
       length-set _ _ _ ∙ c.loop-left.invariant.2,
       (λ j h. past-at 4 left j ∙ c.loop-left.invariant.3 (4 + j) (omega (arith, ltb-false)) ∙ ap (λ k. get_or f k 0) (omega arith)),
-      texts-more (body_of n f) c.loop-left.bodies c.loop-left.row c.in-ok-body.body (omega (arith, ltb-false)) on.is c.loop-left.invariant.4,
+      texts-more (body_of n f) c.loop-left.bodies c.loop-left.row c.in_ok-body.body (omega (arith, ltb-false)) on.is c.loop-left.invariant.4,
       start-on n f c.loop-left.row _ _ c.loop-left.invariant.5 z,
       turns-on n f c.loop-left.row c.loop-left.invariant.6 on.reads,
     )

@@ -10,6 +10,6 @@ pub returns-in-C : goal.returns-in-C
 unfolding shape_in
 returns-in-C c = search rules
 
-pub returns-in-default : goal.returns-in-default
+pub returns-in_default : goal.returns-in_default
 unfolding shape_in
-returns-in-default c = search rules
+returns-in_default c = search rules
