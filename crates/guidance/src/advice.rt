@@ -49,7 +49,7 @@ fn is_answer(chart: &Chart, event: u8) -> bool
 
 // The lowest answer that is possible in the level's walk.
 fn lowest_answer<B: Bank>(chart: &Chart, bank: &B, row: &Row, level: u8) -> Guidance
-    ensures { result ≡ named (first (chart_of chart.now).events (answer_enabled (line_from chart.now (list bank.now)) level (row_state row.now))) }
+    ensures { result ≡ named (first (chart_of chart.now).events (answer_enabled (line_from chart.now (B.list bank.now)) level (row_state row.now))) }
 {
     for event in 0..chart.events() {
         if is_answer(chart, event) && possible_at(chart, bank, Part::Low(level), row, event) {
@@ -69,7 +69,7 @@ fn toward_any<B: Bank>(
     keys: &mut [u32],
 ) -> Result<Guidance, Refusal>
     requires { IsLevel (chart_of chart.now) level }
-    ensures { Gives (line_from chart.now (list bank.now)) (row_state row.now) (lent queue.old keys.old)
+    ensures { Gives (line_from chart.now (B.list bank.now)) (row_state row.now) (lent queue.old keys.old)
         (λ l x. any_answer l level x) result }
 {
     let way = nearest(chart, bank, Aim::AnyAnswer(level), row, queue, keys)?;
@@ -87,7 +87,7 @@ fn toward_answer<B: Bank>(
     keys: &mut [u32],
 ) -> Result<Guidance, Refusal>
     requires { IsLevel (chart_of chart.now) level }
-    ensures { Gives (line_from chart.now (list bank.now)) (row_state row.now) (lent queue.old keys.old)
+    ensures { Gives (line_from chart.now (B.list bank.now)) (row_state row.now) (lent queue.old keys.old)
         (λ l x. answer_or l level event x (low_distance l level (to_answer l level event) x)) result }
 {
     match nearest(chart, bank, Aim::Answer { level, event }, row, queue, keys)? {
@@ -107,7 +107,7 @@ fn toward_wanted<B: Bank>(
     keys: &mut [u32],
 ) -> Result<Guidance, Refusal>
     requires { event < (chart_of chart.now).events }
-    ensures { Gives (line_from chart.now (list bank.now)) (row_state row.now) (lent queue.old keys.old)
+    ensures { Gives (line_from chart.now (B.list bank.now)) (row_state row.now) (lent queue.old keys.old)
         (λ l x. by_kind l (l.chart.kind event) event x) result }
 {
     match (chart.kind(event), chart.owner(event)) {
@@ -123,7 +123,7 @@ fn toward_wanted<B: Bank>(
 // Whether plant and supervisor of the level are marked.
 fn at_rest<B: Bank>(bank: &B, row: &Row, level: u8) -> bool
     requires { (1 ≤ level) × (level ≤ 8) }
-    ensures { (chart : EventChart) → result ≡ at_rest (line_of chart (list bank.now)) level (row_state row.now) }
+    ensures { (chart : EventChart) → result ≡ at_rest (line_of chart (B.list bank.now)) level (row_state row.now) }
 {
     let plant = 3 * level - 1;
     let supervisor = 3 * level;
@@ -132,7 +132,7 @@ fn at_rest<B: Bank>(bank: &B, row: &Row, level: u8) -> bool
 
 // The lowest level whose plant or supervisor is unmarked.
 fn lowest_unrested<B: Bank>(chart: &Chart, bank: &B, row: &Row) -> Option<u8>
-    ensures { maybe result ≡ first (suc (chart_of chart.now).levels) (not_at_rest (line_from chart.now (list bank.now)) (row_state row.now)) }
+    ensures { maybe result ≡ first (suc (chart_of chart.now).levels) (not_at_rest (line_from chart.now (B.list bank.now)) (row_state row.now)) }
 {
     for level in 1..=chart.levels() {
         if !at_rest(bank, row, level) {
@@ -150,7 +150,7 @@ fn toward_rest<B: Bank>(
     queue: &mut [u32],
     keys: &mut [u32],
 ) -> Result<Guidance, Refusal>
-    ensures { Gives (line_from chart.now (list bank.now)) (row_state row.now) (lent queue.old keys.old)
+    ensures { Gives (line_from chart.now (B.list bank.now)) (row_state row.now) (lent queue.old keys.old)
         (λ l x. homeward l (first (suc l.chart.levels) (not_at_rest l x)) x) result }
 {
     let Some(level) = lowest_unrested(chart, bank, row) else {
@@ -168,8 +168,8 @@ pub fn advice<B: Bank>(
     queue: &mut [u32],
     keys: &mut [u32],
 ) -> Result<Guidance, Refusal>
-    ensures value { IfOk result (λ g. g ≡ guide (line_from chart.now (list bank.now)) (row_state row.now)) }
-    ensures succeeds { Ready (line_from chart.now (list bank.now)) (row_state row.now) (lent queue.old keys.old) → is_ok result ≡ true }
+    ensures value { IfOk result (λ g. g ≡ guide (line_from chart.now (B.list bank.now)) (row_state row.now)) }
+    ensures succeeds { Ready (line_from chart.now (B.list bank.now)) (row_state row.now) (lent queue.old keys.old) → is_ok result ≡ true }
 {
     match nearest(chart, bank, Aim::HighMarked, row, queue, keys)? {
         Way::Unreachable => Ok(Guidance::NoEvent),

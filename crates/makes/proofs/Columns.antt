@@ -1,5 +1,5 @@
 -- The columns of a stock's body. Assumes nothing.
-use Rattle.std.proofs.Common.{◌≡◌, ℕ, ◌+◌, ◌<◌, ◌≤◌, Bool, eqb, List, length, get_or, take, drop, Decides, sym, ◌∙◌, arith}
+use Rattle.std.proofs.Common.{◌≡◌, ℕ, ◌+◌, ◌<◌, ◌≤◌, Bool, eqb, List, length, get_or, take, drop, sym, ◌∙◌, arith}
 use Rattle.std.specs.List.{IsAnyAnswer}
 use Rattle.std.proofs.lemmas.Bool.{eq-eqb, eqb-true}
 use Rattle.std.proofs.lemmas.List.Elements.{contains_decides}
@@ -9,7 +9,7 @@ use Rattle.model.proofs.Finds.{any-from, any_some, bool_iff}
 use Rattle.std.proofs.lemmas.Bool.Decides.{Decides-eqb}
 
 -- whether a byte stands among the n from place m on
-pub contains-any : (body : List ℕ) (m n x : ℕ) (r : Bool) → m + n ≤ length body → IsAnyAnswer (λ y t. Decides t (y ≡ x)) (take n (drop m body)) r →
+pub contains-any : (body : List ℕ) (m n x : ℕ) (r : Bool) → m + n ≤ length body → IsAnyAnswer (λ y t. eqb y x ≡ t) (take n (drop m body)) r →
     r ≡ any n (λ k. eqb (get_or body (m + k) 0) x)
 contains-any body m n x r fits has =
     let part : List ℕ = take n (drop m body) in

@@ -31,7 +31,7 @@ fn alphabet(chart: &Chart, component: u8) -> EventSet
 
 // The lowest event that the component knows and the alphabet lacks, or the other way round. No component knows an event from 64 up.
 fn difference<B: Bank>(bank: &B, component: u8, alphabet: EventSet) -> Option<u8>
-    ensures { Found 64 (λ e. alike ((slice_index_or (list bank.now) component nothing).knows e) (member alphabet.word e)) result }
+    ensures { Found 64 (λ e. alike ((slice_index_or (B.list bank.now) component nothing).knows e) (member alphabet.word e)) result }
 {
     for event in 0..64 {
         if bank.knows(component, event) != alphabet.contains(event) {
@@ -43,8 +43,8 @@ fn difference<B: Bank>(bank: &B, component: u8, alphabet: EventSet) -> Option<u8
 
 // Tries the first point, component by component.
 pub(crate) fn alphabets_known<B: Bank>(chart: &Chart, bank: &B) -> Result<(), Fault>
-    requires { WellMade (line_from chart.now (list bank.now)) }
-    ensures { TriedAll (line_from chart.now (list bank.now)) (listed (components (line_from chart.now (list bank.now))) (λ c. alphabet_known c ∷ [])) result }
+    requires { WellMade (line_from chart.now (B.list bank.now)) }
+    ensures { TriedAll (line_from chart.now (B.list bank.now)) (listed (components (line_from chart.now (B.list bank.now))) (λ c. alphabet_known c ∷ [])) result }
 {
     for component in 0..2 + 3 * chart.levels() {
         if let Some(event) = difference(bank, component, alphabet(chart, component)) {

@@ -23,13 +23,13 @@ fn ten_points<B: Bank>(
     second: &mut [u32],
     third: &mut [u32],
 ) -> Result<(), Fault>
-    requires made { WellMade (line_from chart.now (list bank.now)) }
-    requires lows { (j : ℕ) → IsLevel (line_from chart.now (list bank.now)).chart j → size (line_from chart.now (list bank.now)) (low (line_from chart.now (list bank.now)) j) ≤ 4096 }
-    requires top { size (line_from chart.now (list bank.now)) (high (line_from chart.now (list bank.now))) ≤ 4096 }
-    requires first { largest_walk (line_from chart.now (list bank.now)) ≤ length first.old }
-    requires second { largest_walk (line_from chart.now (list bank.now)) ≤ length second.old }
-    requires third { largest_walk (line_from chart.now (list bank.now)) ≤ length third.old }
-    ensures { TriedAll (line_from chart.now (list bank.now)) (tests (line_from chart.now (list bank.now))) result }
+    requires made { WellMade (line_from chart.now (B.list bank.now)) }
+    requires lows { (j : ℕ) → IsLevel (line_from chart.now (B.list bank.now)).chart j → size (line_from chart.now (B.list bank.now)) (low (line_from chart.now (B.list bank.now)) j) ≤ 4096 }
+    requires top { size (line_from chart.now (B.list bank.now)) (high (line_from chart.now (B.list bank.now))) ≤ 4096 }
+    requires first { largest_walk (line_from chart.now (B.list bank.now)) ≤ length first.old }
+    requires second { largest_walk (line_from chart.now (B.list bank.now)) ≤ length second.old }
+    requires third { largest_walk (line_from chart.now (B.list bank.now)) ≤ length third.old }
+    ensures { TriedAll (line_from chart.now (B.list bank.now)) (tests (line_from chart.now (B.list bank.now))) result }
 {
     alphabets_known(chart, bank)?;
     command_pairs(chart, bank, first, second)?;
@@ -45,7 +45,7 @@ pub fn examine<B: Bank>(
     second: &mut [u32],
     third: &mut [u32],
 ) -> Result<(), Fault>
-    ensures { Verdict (line_from chart.now (list bank.now)) (length (list bank.now)) (cells_in (length first.old) (length second.old) (length third.old)) (fault_in result) }
+    ensures { Verdict (line_from chart.now (B.list bank.now)) (length (B.list bank.now)) (cells_in (length first.old) (length second.old) (length third.old)) (fault_in result) }
 {
     let sizes = WalkSizes::of(chart, bank)?;
     let shortest = first.len().min(second.len()).min(third.len());

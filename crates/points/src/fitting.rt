@@ -13,10 +13,10 @@ use walks::walk::Walk;
 
 // A walk that is known to fit.
 pub(crate) fn fitting_walk<B: Bank>(chart: &Chart, bank: &B, part: Part) -> Walk
-    requires made { WellMade (line_from chart.now (list bank.now)) }
-    requires exists { has_part (line_from chart.now (list bank.now)).chart.levels part ≡ true }
-    requires few { size (line_from chart.now (list bank.now)) (part_walk (line_from chart.now (list bank.now)) part) ≤ 4096 }
-    ensures { Fits result (line_from chart.now (list bank.now)) part }
+    requires made { WellMade (line_from chart.now (B.list bank.now)) }
+    requires exists { has_part (line_from chart.now (B.list bank.now)).chart.levels part ≡ true }
+    requires few { size (line_from chart.now (B.list bank.now)) (part_walk (line_from chart.now (B.list bank.now)) part) ≤ 4096 }
+    ensures { Fits result (line_from chart.now (B.list bank.now)) part }
 {
     match Walk::of(chart, bank, part) {
         Ok(walk) => walk,

@@ -4,6 +4,6 @@ use Rattle.makes.proofs.bytes.split.Goals as goal
 
 pub returns : goal.returns
 returns c = record {
-  front = c.split-at.ensures.front ∙ take_min c.args.n c.args.bytes.now c.min-n.result c.min-n.ensures;
-  back = c.split-at.ensures.back ∙ drop_min c.args.n c.args.bytes.now c.min-n.result c.min-n.ensures;
+  front = c.split_at.ensures.front ∙ take_min c.args.n c.args.bytes.now c.min-n.result c.min-n.ensures;
+  back = c.split_at.ensures.back ∙ drop_min c.args.n c.args.bytes.now c.min-n.result c.min-n.ensures;
 }

@@ -3,10 +3,10 @@ use Rattle.model.proofs.Places.{first_off-is}
 use Rattle.makes.specs.Bodies.{body_fits}
 use Rattle.makes.proofs.fits.departure.Goals as goal
 
-pub returns-then-not-byte-fits : goal.returns-then-not-byte-fits
-returns-then-not-byte-fits c =
+pub returns-then-not-byte_fits : goal.returns-then-not-byte_fits
+returns-then-not-byte_fits c =
     sym (first_off-is (length c.args.body.now) (body_fits c.args.events c.args.body.now) c.loop-place.place
-    (omega arith) c.loop-place.invariant (λ h. sym c.if-not-byte-fits.ensures))
+    (omega arith) c.loop-place.invariant (λ h. sym c.if-not-byte_fits.ensures))
 
 pub returns : goal.returns
 returns c =

@@ -3,13 +3,13 @@ use Rattle.makes.specs.Bodies.{departure, body_size}
 use Rattle.makes.proofs.Departures.{departure-small, size_small, departs, stands}
 use Rattle.makes.proofs.make.whole.Goals as goal
 
-pub overflow-cast-result : goal.overflow-cast-result
-overflow-cast-result c =
+pub overflow_cast-result : goal.overflow_cast-result
+overflow_cast-result c =
     omega (
       arith,
       c.departure-place.ensures,
       departure-small c.args.events c.args.body.now,
-      size_small c.args.events c.args.body.now (omega arith) (omega (arith, c.type-inv.body 1)),
+      size_small c.args.events c.args.body.now (omega arith) (omega (arith, c.type_inv.body 1)),
     )
 
 pub overflow_add-result : goal.overflow_add-result
@@ -18,7 +18,7 @@ overflow_add-result c =
       arith,
       c.departure-place.ensures,
       departure-small c.args.events c.args.body.now,
-      size_small c.args.events c.args.body.now (omega arith) (omega (arith, c.type-inv.body 1)),
+      size_small c.args.events c.args.body.now (omega arith) (omega (arith, c.type_inv.body 1)),
     )
 
 pub returns-then-place-body : goal.returns-then-place-body
