@@ -11,7 +11,7 @@ returns-then-level-ge9 c e =
     let n : length c.args.self.now.alphabets ≡ 9 = search rules in
     member-zero e
     ∙ ⊎_elim
-    (λ i. let z : is_interface c.args.component ≡ true = sym c.is-interface.ensures ∙ i in rw z refl)
+    (λ i. let z : is_interface c.args.component ≡ true = sym c.is_interface.ensures ∙ i in rw z refl)
     (λ i.
     let p = get_or_past c.args.self.now.alphabets (level_of c.args.component) 0 (omega arith) in
     sym (and_right (not (is_interface c.args.component)) (member (get_or c.args.self.now.alphabets (level_of c.args.component) 0) e) (rw p (member-zero e))))

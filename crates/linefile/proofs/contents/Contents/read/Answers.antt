@@ -4,15 +4,15 @@ use Rattle.linefile.specs.Layout.{contents_end, row_length, body_start, rows}
 use Rattle.linefile.proofs.Rows.{first-length, contents-short, contents-row, contents-events, contents-spare, contents-whole}
 use Rattle.linefile.proofs.contents.Contents.read.Goals as goal
 
-pub returns-then-file-contents-end : goal.returns-then-file-contents-end
-returns-then-file-contents-end c = record {
+pub returns-then-file-contents_end : goal.returns-then-file-contents_end
+returns-then-file-contents_end c = record {
   told = contents-short c.args.levels c.args.events c.args.file.now (omega arith);
   found = tt;
 }
 
 pub returns-in_err-bodies : goal.returns-in_err-bodies
 returns-in_err-bodies c =
-    let p = err_from_is_err_and c.from-residual.result c.from-residual.ensures.1 in
+    let p = err_from_is_err_and c.from_residual.result c.from_residual.ensures.1 in
     rw (p.1, p.2)
     (record {
       told = contents-row c.args.levels c.args.events c.args.file.now (omega arith) c.in_err-bodies.field-0.0 c.in_err-bodies.ensures.told;

@@ -8,7 +8,7 @@ use Rattle.linefile.proofs.contents.Laid.read.Goals as goal
 
 pub loop-left-init : goal.loop-left-init
 loop-left-init c =
-    let S : ℕ = c.contents-end-end.result - 3 in
+    let S : ℕ = c.contents_end-end.result - 3 in
     let f : List ℕ = c.args.file.now in
     let n : length (take S (drop 3 f)) ≡ S = simp (length-take, length-drop) (omega arith) in (
       omega (arith, n),
@@ -16,7 +16,7 @@ loop-left-init c =
       refl,
       (λ j h. get_or-take S (drop 3 f) j 0 (omega (arith, n)) ∙ get_or-drop 3 f j 0),
       (λ i h. absurd (omega arith)),
-      c.contents-end-end.ensures,
+      c.contents_end-end.ensures,
       refl,
     )
 
@@ -28,7 +28,7 @@ returns-in_err-body c =
     let s = c.number-start.ensures ∙ start_is f left c.loop-left.row (omega (arith, ltb-false)) c.loop-left.invariant.3 in
     let z = c.number-size.ensures ∙ length-is f left c.loop-left.row (omega (arith, ltb-false)) c.loop-left.invariant.3 in
     let off = row-off n f c.loop-left.row _ _ _ s z c.loop-left.invariant.5 c.in_err-body.field-0.0 c.in_err-body.ensures in
-    let p = err_from_is_err_and c.from-residual.result c.from-residual.ensures.1 in
+    let p = err_from_is_err_and c.from_residual.result c.from_residual.ensures.1 in
     rw (p.1, p.2)
     (record {
       told = sym (turn-off (row_reading n f) c.loop-left.row c.in_err-body.field-0.0 c.loop-left.invariant.6 off (rows n) (omega (arith, ltb-false)));
