@@ -9,8 +9,8 @@ use Rattle.guidance.proofs.Rules.{gives-on, guide-none, guide-here, guide-by}
 use Rattle.guidance.proofs.Ways.{nearest-is}
 use Rattle.guidance.proofs.advice.advice.Goals as goal
 
-pub toward-wanted-requires : goal.toward-wanted-requires
-toward-wanted-requires g c =
+pub toward_wanted-requires : goal.toward_wanted-requires
+toward_wanted-requires g c =
     let l = line_from c.args.chart.now (g.B.Bank.list c.args.bank.now) in
     let x = row_state c.args.row.now in
     let cells = lent c.args.queue.now c.args.keys.now in
@@ -42,6 +42,6 @@ returns-in-By g c =
     let cells = lent c.args.queue.now c.args.keys.now in
     let e = c.in-By.event in
     let way = nearest-is l HighMarked x cells c.in_ok-nearest.field-0 c.in_ok-nearest.ensures.value in
-    let s = gives-on l x (lent c.nearest.new.queue c.nearest.new.keys) cells (λ l x. by_kind l (l.chart.kind e) e x) (λ l x. guide l x) c.toward-wanted.result
-    c.toward-wanted.ensures (ap₂ min c.nearest.auto.queue c.nearest.auto.keys) (guide-by l x e c.in-By.distance (sym c.in-By.is ∙ way)).1 in
+    let s = gives-on l x (lent c.nearest.new.queue c.nearest.new.keys) cells (λ l x. by_kind l (l.chart.kind e) e x) (λ l x. guide l x) c.toward_wanted.result
+    c.toward_wanted.ensures (ap₂ min c.nearest.auto.queue c.nearest.auto.keys) (guide-by l x e c.in-By.distance (sym c.in-By.is ∙ way)).1 in
     record { value = s.value; succeeds = s.succeeds }

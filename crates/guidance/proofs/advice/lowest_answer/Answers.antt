@@ -8,16 +8,16 @@ use Rattle.walks.specs.Rows.{row_state}
 use Rattle.walks.specs.Given.{line_from}
 use Rattle.guidance.proofs.Lowest.{lowest-at, lowest-none}
 use Rattle.guidance.proofs.advice.lowest_answer.Goals as goal
-use Rattle.guidance.proofs.advice.lowest_answer.Goals.{else-is-answer-via-then-is-answer+else-possible-at, else-is-answer-via-else-is-answer}
+use Rattle.guidance.proofs.advice.lowest_answer.Goals.{else-is_answer-via-then-is_answer+else-possible_at, else-is_answer-via-else-is_answer}
 
-pub returns-then-possible-at : goal.returns-then-possible-at
-returns-then-possible-at g c =
+pub returns-then-possible_at : goal.returns-then-possible_at
+returns-then-possible_at g c =
     let l = line_from c.args.chart.now (g.B.Bank.list c.args.bank.now) in
     let j = c.args.level in
     let x = row_state c.args.row.now in
     let e = c.loop-event.event in
     sym (ap named (lowest-at l.chart.events (answer_enabled l j x) e (omega (arith, c.events-event-end.ensures.value)) c.loop-event.invariant
-    (and_from (possible l (low l j) x e) (is_answer (l.chart.kind e)) (sym c.if-possible-at.ensures) (sym c.if-is-answer.ensures))))
+    (and_from (possible l (low l j) x e) (is_answer (l.chart.kind e)) (sym c.if-possible_at.ensures) (sym c.if-is_answer.ensures))))
 
 pub loop-event-preserved : goal.loop-event-preserved
 loop-event-preserved g c =
@@ -26,9 +26,9 @@ loop-event-preserved g c =
     let x = row_state c.args.row.now in
     let e = c.loop-event.event in
     below_more (λ (k : ℕ). answer_enabled l j x k ≡ false) e c.loop-event.invariant
-    (elim c.else-is-answer.branch [
-      | else-is-answer-via-then-is-answer+else-possible-at w ↦ and_left (possible l (low l j) x e) (is_answer (l.chart.kind e)) (sym w.if-possible-at.ensures)
-      | else-is-answer-via-else-is-answer w ↦ and_right (possible l (low l j) x e) (is_answer (l.chart.kind e)) (sym w.if-is-answer.ensures)
+    (elim c.else-is_answer.branch [
+      | else-is_answer-via-then-is_answer+else-possible_at w ↦ and_left (possible l (low l j) x e) (is_answer (l.chart.kind e)) (sym w.if-possible_at.ensures)
+      | else-is_answer-via-else-is_answer w ↦ and_right (possible l (low l j) x e) (is_answer (l.chart.kind e)) (sym w.if-is_answer.ensures)
     ])
 
 pub returns : goal.returns

@@ -18,4 +18,4 @@ returns g c =
     let j = c.args.level in
     let way = c.in_ok-way.way in
     gives-ok l x cells (λ l x. any_answer l j x) c.step.result
-    (c.step.ensures ∙ ap (λ (g : Guidance). step_by way g) c.lowest-answer.ensures ∙ any_step l x j way (nearest-is l (AnyAnswer j) x cells way c.in_ok-way.ensures.value))
+    (c.step.ensures ∙ ap (λ (g : Guidance). step_by way g) c.lowest_answer.ensures ∙ any_step l x j way (nearest-is l (AnyAnswer j) x cells way c.in_ok-way.ensures.value))

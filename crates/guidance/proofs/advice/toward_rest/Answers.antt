@@ -17,7 +17,7 @@ returns-in_err-way g c =
     let x = row_state c.args.row.now in
     let cells = lent c.args.queue.now c.args.keys.now in
     let j = c.in-Some.level in
-    let p = err_from_is_err_and c.from-residual.result c.from-residual.ensures.1 in
+    let p = err_from_is_err_and c.from_residual.result c.from_residual.ensures.1 in
     rw p.1 (gives-refused l x cells (λ l x. homeward l (first (suc l.chart.levels) (not_at_rest l x)) x) (AtRest j) c.in_err-way.field-0.0 p.0
     (λ ready. ready.levels j (unrested-level l x j c.in-Some.ensures)) c.in_err-way.ensures.value)
 

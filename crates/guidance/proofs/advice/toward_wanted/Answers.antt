@@ -6,8 +6,8 @@ use Rattle.charts.specs.Meanings.{chart_of}
 use Rattle.guidance.proofs.Rules.{owner-level}
 use Rattle.guidance.proofs.advice.toward_wanted.Goals as goal
 
-pub toward-answer-requires : goal.toward-answer-requires
-toward-answer-requires g c =
+pub toward_answer-requires : goal.toward_answer-requires
+toward_answer-requires g c =
     let chart = c.args.chart.now in
     let told = c.in-Some-Answer-Some.ensures in
     let kind : kind_at (chart_of chart) c.args.event ≡ Some Answer = cc in
