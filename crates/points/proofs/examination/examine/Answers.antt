@@ -14,7 +14,7 @@ pub returns-in_err-sizes : goal.returns-in_err-sizes
 returns-in_err-sizes g c =
     let gens = g.B.Bank.list c.args.bank.now in
     let l = line_from c.args.chart.now (g.B.Bank.list c.args.bank.now) in
-    let p = err_from_is_err_and c.from-residual.result c.from-residual.ensures.1 in
+    let p = err_from_is_err_and c.from_residual.result c.from_residual.ensures.1 in
     rw (p.1, p.2) (unmeasured l (length gens) (cells_in (length c.args.first.now) (length c.args.second.now) (length c.args.third.now)) _ c.in_err-sizes.ensures)
 
 pub returns-then-shortest-largest : goal.returns-then-shortest-largest
@@ -27,8 +27,8 @@ returns-then-shortest-largest g c =
     few_cells q.0
     (few-cells-of l (length c.args.first.now) (length c.args.second.now) (length c.args.third.now) (omega (arith, n)))
 
-pub ten-points-requires : goal.ten-points-requires
-ten-points-requires g c =
+pub ten_points-requires : goal.ten_points-requires
+ten_points-requires g c =
     let k = c.args.chart.now in
     let gens = g.B.Bank.list c.args.bank.now in
     let l = line_from c.args.chart.now (g.B.Bank.list c.args.bank.now) in
@@ -52,4 +52,4 @@ returns g c =
     let n : c.largest.result ≡ largest_walk l = c.largest.ensures ∙ largest-of l (well-charted k).few_levels c.in_ok-sizes.sizes q.1 in
     judged l (length gens) (cells_in (length c.args.first.now) (length c.args.second.now) (length c.args.third.now)) q.0
     (enough-cells l (length c.args.first.now) (length c.args.second.now) (length c.args.third.now) (omega (arith, n)) (omega (arith, n)) (omega (arith, n)))
-    c.ten-points.result c.ten-points.ensures
+    c.ten_points.result c.ten_points.ensures
