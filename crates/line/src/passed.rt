@@ -17,7 +17,7 @@ pub struct Passed<B: Bank> {
 impl<B: Bank> Model for Passed<B> {
     ghost also_owns = { λ p. fex (Checked p.chart (B.Bank.list p.bank)) (λ _. ftrue) };
 
-    ghost also_shares = { λ p _ κ. said (fex (Checked p.chart (B.Bank.list p.bank)) (λ _. ftrue)) (λ _. tt) κ };
+    ghost also_shares = { λ p _ κ. said (fex (Checked p.chart (B.Bank.list p.bank)) (λ _. ftrue)) κ };
 }
 
 impl<B: Bank> Passed<B> {

@@ -19,7 +19,7 @@ pub struct Running<B: Bank> {
 impl<B: Bank> Model for Running<B> {
     ghost also_owns = { λ r. fex (Runs r.chart r.row (B.Bank.list r.bank)) (λ _. ftrue) };
 
-    ghost also_shares = { λ r _ κ. said (fex (Runs r.chart r.row (B.Bank.list r.bank)) (λ _. ftrue)) (λ _. tt) κ };
+    ghost also_shares = { λ r _ κ. said (fex (Runs r.chart r.row (B.Bank.list r.bank)) (λ _. ftrue)) κ };
 }
 
 impl<B: Bank> Running<B> {

@@ -13,7 +13,7 @@ returns g c =
     let gens = g.B.Bank.list c.args.bank.now in
     let states = c.loop-component.states in
     let n = c.loop-component.component in
-    let most : 2 + 3 * (chart_of chart).levels ≡ n = omega (arith, c.component-count-component-end.ensures.0) in
+    let most : 2 + 3 * (chart_of chart).levels ≡ n = omega (arith, c.component_count-component-end.ensures.0) in
     let is = all-initial gens (chart_of chart) c.requires.sizes.complete n states (omega arith) c.loop-component.invariant.1 c.loop-component.invariant.2 in
     record {
       state = is;

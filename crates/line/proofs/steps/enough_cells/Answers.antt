@@ -8,4 +8,4 @@ pub returns : goal.returns
 returns g c =
     let k = c.args.chart.now in
     let l = line_from c.args.chart.now (g.B.Bank.list c.args.bank.now) in
-    ap (λ (n : ℕ). leb n c.args.cells) (c.largest.ensures ∙ largest-of l (well-charted k).few_levels c.walk-sizes.result c.walk-sizes.ensures)
+    ap (λ (n : ℕ). leb n c.args.cells) (c.largest.ensures ∙ largest-of l (well-charted k).few_levels c.walk_sizes.result c.walk_sizes.ensures)

@@ -18,7 +18,7 @@ returns-in_default g c =
     let gens = g.B.Bank.list c.args.bank.now in
     let n = c.loop-component.component in
     let inside : c.args.event < (chart_of c.args.chart.now).events = omega (arith, c.events.ensures.value) in
-    let few : n < 2 + 3 * (chart_of c.args.chart.now).levels = omega (arith, c.component-count-component-end.ensures.0) in
+    let few : n < 2 + 3 * (chart_of c.args.chart.now).levels = omega (arith, c.component_count-component-end.ensures.0) in
     refused-by gens (g.B.Bank.formed c.args.bank.now) c.args.row.now c.args.event (chart_of c.args.chart.now) inside n c.loop-component.states few
     (sym (ap (λ (s : ℕ). followed ((get_or gens n nothing).next s c.args.event) s) c.state.ensures) ∙ sym c.in_default.ensures) c.loop-component.invariant.1
 
@@ -31,7 +31,7 @@ loop-component-preserved g c =
     let gens = g.B.Bank.list c.args.bank.now in
     let n = c.loop-component.component in
     let states = c.loop-component.states in
-    let few : n < length states = omega (arith, c.component-count-component-end.ensures.1, c.loop-component.invariant.0) in (
+    let few : n < length states = omega (arith, c.component_count-component-end.ensures.1, c.loop-component.invariant.0) in (
       length-set states n c.in-Some.state ∙ c.loop-component.invariant.0,
       moving-more gens (g.B.Bank.formed c.args.bank.now) c.args.row.now c.args.event n c.in-Some.state states few
           (sym (ap (λ (s : ℕ). followed ((get_or gens n nothing).next s c.args.event) s) c.state.ensures) ∙ sym c.in-Some.ensures) c.loop-component.invariant.1,
@@ -46,7 +46,7 @@ returns g c =
     let states = c.loop-component.states in
     let n = c.loop-component.component in
     let inside : c.args.event < (chart_of k).events = omega (arith, c.events.ensures.value) in
-    let most : 2 + 3 * (chart_of k).levels ≡ n = omega (arith, c.component-count-component-end.ensures.0) in
+    let most : 2 + 3 * (chart_of k).levels ≡ n = omega (arith, c.component_count-component-end.ensures.0) in
     let m = c.loop-component.invariant.1 in
     let is = all_moved gens formed row c.args.event (chart_of k) c.requires.checked.sizes.complete n states (omega arith) m in (
       all-accept gens formed row c.args.event (chart_of k) inside n states (omega arith) m,

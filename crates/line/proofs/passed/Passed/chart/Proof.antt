@@ -18,6 +18,7 @@ use denote.Exit.{yes}
 use denote.RattleType.{RattleType, owns}
 use denote.Memory.{lone, shared_of, hidden_shr}
 use denote.Opens.{shr_dup, unhide}
+use denote.Param.Laws.{Laws, param_laws}
 use denote.Param.{layout, bounded, param}
 use denote.Ref.{ShrRef, shr_vals, shr_Tells}
 use denote.Signature.{plain}
@@ -39,6 +40,7 @@ use Rattle.charts.specs.declared.chart.Chart.{Chart}
 use Rattle.charts.specs.contracts.chart.Chart as KC
 use Rattle.line.specs.contracts.passed.Passed as SL
 use Rattle.line.specs.contracts.passed.Passed.chart.Key.{name as #self}
+use Rattle.line.proofs.passed.Passed.TheLaws.{the_row_laws}
 use Rattle.line.proofs.passed.Passed.chart.Statement as stated
 use Rattle.line.proofs.passed.Passed.chart.Code as code
 
@@ -58,7 +60,7 @@ module _ (Y : RattleType) (g : Ghosts Y.Denot) (d : Dict) where
   abbrev spec : {M : Type 1} (𝓤 : Ura M) → Clauses 𝓤 ended
   spec 𝓤 κs a = record { ghost = Unit {0}; requires = λ _. emp 𝓤; ensures = λ _ r _. fact 𝓤 ((r.now ≡ a.0.now.chart) × Checked a.0.now.chart (g.list a.0.now.bank)) }
 
-module _ (Y : RattleType) (g : Ghosts Y.Denot) (d : Dict) {M : Type 1} {𝓤 : Ura M} (𝓛 : Logic 𝓤) where
+module _ (Y : RattleType) (g : Ghosts Y.Denot) (d : Dict) (L : Laws Y) {M : Type 1} {𝓤 : Ura M} (𝓛 : Logic 𝓤) where
   open 𝓛 use {H, A}
 
   abbrev Words : RattleType
@@ -95,7 +97,7 @@ module _ (Y : RattleType) (g : Ghosts Y.Denot) (d : Dict) {M : Type 1} {𝓤 : U
           qed 𝓛 ((‵ (flft κ q) ⊛ ‵ ftrue) ∷ ‵ (owns (ShrRef (named 0) κ (S Y g d) ∷ []) (self, tt) (vptr b o ∷ [], tt)) ∷ []) ∵ enter ! C Λ (fn' Y g d) (vptr b o ∷ []) _ $
           alloc1 ! (λ l₀. alloc1 ! (λ l₁. alloc0 ! $ params1 ! $ pass1 ! (init ! 0 refl (tt, tt)) $ pass0 ! $
           move ! (5 ∷ []) $
-          fsplit ! $ fsplit ! $ drop ! $ shr_dup ! (shared_of (S Y g d) s b o) κ $
+          fsplit ! $ fsplit ! $ drop ! $ shr_dup ! (S Y g d) (the_row_laws (param 0 Y) g (param_laws 0 Y L)).shr_laws s b o κ $
           use1 𝓛 (‵ (hidden_shr Words κ (x, ((KC.the_type).to k, tt)) b o) ⊛ ‵ (fhide (fex (Checked k (g.list x)) (λ _. ftrue)))) (lent_out 𝓛 (SL.struct (param 0 Y) g) (SL.the_codes Y.Denot Y.coded) (SL.the_heap (param 0 Y) g) (SL.the_lent (param 0 Y) g) κ s b o) $ split ! $
           move ! (1 ∷ []) $ unhide ! $ fpick ! (λ good. drop ! $
           unhide ! $ fsplit ! $ fsplit ! $ move ! (1 ∷ []) $ fsplit ! $ keep ! (0 ∷ 4 ∷ 5 ∷ 6 ∷ 7 ∷ 8 ∷ 9 ∷ 10 ∷ []) $
@@ -110,11 +112,11 @@ module _ (Y : RattleType) (g : Ghosts Y.Denot) (d : Dict) {M : Type 1} {𝓤 : U
       (walked 𝓛 (ended Y g d) (stayed Y g d) (spec Y g d 𝓤) (WpFn 𝓤 H 𝓣.C 𝓣.Λ (fn' Y g d)) (λ κs. (shr_vals, tt)) (λ κs. (shr_Tells (named 0) κs.0 (S Y g d), tt))
       (λ κs qs bounds a u are. via 𝓤 _ (fst∗ 𝓤 _ (emp 𝓤)) (walk κs.0 qs.0 a.0.ref_ptr.0 a.0.ref_ptr.1 0 a.0.now 𝓣.C 𝓣.Λ)))
 
-pub chart-spec : {M : Type 1} → stated.statement M
+pub chart_spec : {M : Type 1} → stated.statement M
 unfolding tables_of
-chart-spec 𝓤 𝓛 𝓜 𝓡 wired Y laws g d met y =
+chart_spec 𝓤 𝓛 𝓜 𝓡 wired Y laws g d met y =
     let A = 𝓛.A in
     let 𝓣 : Tables 𝓤 𝓛.H = tables_of 𝓤 𝓛.H 𝓜 (tables 𝓤 𝓛.H 𝓜 𝓡 𝓡.env) in
     spared 𝓛 (ended Y g d).signature (𝓡.run (𝓡.env (#self (bounded (a_type ∷ []) (Y, tt) (dcons d dnil))))) (run_framed 𝓤 𝓛.H 𝓜 𝓡 (𝓡.env (#self (bounded (a_type ∷ []) (Y, tt) (dcons d dnil))))) 1 (Y.lives, tt) (closing 𝓛 (ended Y g d) (spec Y g d 𝓤))
-    (entered 𝓤 𝓛.H (triple_of 𝓛 (ended Y g d).signature (closing 𝓛 (ended Y g d) (spec Y g d 𝓤))) 𝓣.C 𝓣.Λ (#self (bounded (a_type ∷ []) (Y, tt) (dcons d dnil))) (fn' Y g d) (code.unfolded 𝓤 𝓛.H 𝓜 𝓡 wired (Y, tt) d) (meets Y g d 𝓛 𝓣))
+    (entered 𝓤 𝓛.H (triple_of 𝓛 (ended Y g d).signature (closing 𝓛 (ended Y g d) (spec Y g d 𝓤))) 𝓣.C 𝓣.Λ (#self (bounded (a_type ∷ []) (Y, tt) (dcons d dnil))) (fn' Y g d) (code.unfolded 𝓤 𝓛.H 𝓜 𝓡 wired (Y, tt) d) (meets Y g d laws 𝓛 𝓣))
     ((y.0.0, y.0.1, tt, y.0.3, y.0.4), y.1)

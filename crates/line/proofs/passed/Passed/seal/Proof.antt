@@ -116,9 +116,9 @@ module _ (Y : RattleType) (g : Ghosts Y.Denot) (d : Dict) {M : Type 1} {𝓤 : U
       fact_use 𝓤 (Are Rs (Ises Rs) a vss) (via 𝓤 (sem 𝓛 (owns Rs a vss)) (via 𝓤 (on_entry 𝓛 (ended Y g d).signature z.0.0 z.0.1 a vss) (fst∗ 𝓤 (on_entry 𝓛 (ended Y g d).signature z.0.0 z.0.1 a vss) ((held z.0.0 a).requires z.1)) (snd∗ 𝓤 (alive 𝓛 (ended Y g d).signature z.0.0 z.0.1) (sem 𝓛 (owns Rs a vss)))) (owns_show 𝓛 Rs (Ises Rs) (showss 𝓛 Rs) a vss)) (λ are.
       entry 𝓣.C 𝓣.Λ z vss.0 vss.1.0 are.0 are.1.0))
 
-pub seal-spec : {M : Type 1} → stated.statement M
+pub seal_spec : {M : Type 1} → stated.statement M
 unfolding tables_of
-seal-spec 𝓤 𝓛 𝓜 𝓡 wired Y laws g d met =
+seal_spec 𝓤 𝓛 𝓜 𝓡 wired Y laws g d met =
     let A = 𝓛.A in
     let 𝓣 : Tables 𝓤 𝓛.H = tables_of 𝓤 𝓛.H 𝓜 (tables 𝓤 𝓛.H 𝓜 𝓡 𝓡.env) in
     entered 𝓤 𝓛.H (triple_of 𝓛 (ended Y g d).signature (closing 𝓛 (ended Y g d) (F.clauses Y g d 𝓛 𝓜.mem 𝓡.returns))) 𝓣.C 𝓣.Λ (#self (bounded (a_type ∷ []) (Y, tt) (dcons d dnil))) (function Y g d) (code.unfolded 𝓤 𝓛.H 𝓜 𝓡 wired (Y, tt) d)

@@ -6,7 +6,7 @@ use Rattle.points.specs.Examined.{cells_in}
 use Rattle.line.specs.Answers.{Answered}
 use Rattle.line.proofs.Homing.{same-cells, going-none, going_more, going-accepted, going-home, going-short}
 use Rattle.line.proofs.running.Running.go_home.Goals as goal
-use Rattle.line.proofs.running.Running.go_home.Goals.{else-loop-offers-test, then-loop-offers-test+in_ok-event+in-Event+in_ok-offer+else·-offers-offers·end}
+use Rattle.line.proofs.running.Running.go_home.Goals.{else-loop-offers-test, then-loop-offers-test+in_ok-event+in-Event+in_ok-offer+else-offers-offers-end}
 
 pub loop-offers-init : goal.loop-offers-init
 loop-offers-init g c =
@@ -17,7 +17,7 @@ returns-in_err-event g c =
     let cells = cells_in (length c.args.first.now) (length c.args.second.now) (length c.args.third.now) in
     let used = cells_in (length c.loop-offers.first) (length c.loop-offers.second) (length c.loop-offers.third) in
     let lent = same-cells _ _ _ _ _ _ c.loop-offers.auto.first c.loop-offers.auto.second c.loop-offers.auto.third in
-    let p = err_from_is_err_and c.from-residual.result c.from-residual.ensures.1 in
+    let p = err_from_is_err_and c.from_residual.result c.from_residual.ensures.1 in
     rw (p.1, p.2) (going-short g.B.Bank.list c.args.self.now cells c.loop-offers.self c.loop-offers.offers c.loop-offers.invariant used lent c.in_err-event.field-0.0 c.in_err-event.ensures)
 
 pub returns-in_default : goal.returns-in_default
@@ -56,8 +56,8 @@ unreachable-requires g c =
     let lent = same-cells _ _ _ _ _ _ c.loop-offers.auto.first c.loop-offers.auto.second c.loop-offers.auto.third in
     elim c.loop-offers-test.branch [
       | else-loop-offers-test w ↦ omega arith
-      | then-loop-offers-test+in_ok-event+in-Event+in_ok-offer+else·-offers-offers·end w ↦
+      | then-loop-offers-test+in_ok-event+in-Event+in_ok-offer+else-offers-offers-end w ↦
           let named = subst (λ (x : Guidance). Answered list s s (Guide used) (guidance x)) w.in-Event.is w.in_ok-event.ensures in
           let more = going_more list c.args.self.now cells s c.loop-offers.offers c.loop-offers.invariant used lent w.offer.new.self w.in-Event.event named w.in_ok-offer.ensures in
-          omega (arith, more.few, c.most-offers-offers-end.ensures)
+          omega (arith, more.few, c.most_offers-offers-end.ensures)
     ]

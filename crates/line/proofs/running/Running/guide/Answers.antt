@@ -18,18 +18,18 @@ use Rattle.line.proofs.running.Running.guide.Goals as goal
 pub advise-requires : goal.advise-requires
 advise-requires g c =
     let gens = g.B.Bank.list c.bank-bank.result.now in
-    let enough = leb-true (largest_walk (line_from c.chart-chart.result.now gens)) c.min-shortest.result (sym c.enough-cells.ensures ∙ c.if-not-enough-cells.false) in
+    let enough = leb-true (largest_walk (line_from c.chart-chart.result.now gens)) c.min-shortest.result (sym c.enough_cells.ensures ∙ c.if-not-enough_cells.false) in
     record { runs = search rules; queue = omega (arith, enough, c.min.ensures, c.min-shortest.ensures); keys = omega (arith, enough, c.min.ensures, c.min-shortest.ensures) }
 
-pub returns-then-not-enough-cells : goal.returns-then-not-enough-cells
-returns-then-not-enough-cells g c =
+pub returns-then-not-enough_cells : goal.returns-then-not-enough_cells
+returns-then-not-enough_cells g c =
     let list = g.B.Bank.list in
     let s = c.args.self.now in
     let k = length c.args.first.now in
     let m = length c.args.second.now in
     let n = length c.args.third.now in
     let same = ap (λ (x : Chart). largest_walk (line_from x (list c.bank-bank.result.now))) c.chart-chart.ensures.0 ∙ ap (λ (y : g.row.B.Denot). largest_walk (line_from s.chart (list y))) c.bank-bank.ensures.0 in
-    let few = leb-false (largest_walk (line_from c.chart-chart.result.now (list c.bank-bank.result.now))) c.min-shortest.result (sym c.enough-cells.ensures ∙ c.if-not-enough-cells.true) in
+    let few = leb-false (largest_walk (line_from c.chart-chart.result.now (list c.bank-bank.result.now))) c.min-shortest.result (sym c.enough_cells.ensures ∙ c.if-not-enough_cells.true) in
     answered-same list g.B.Bank.formed s c.row-row.ensures.1 (Guide (cells_in k m n)) (refused (WorkCells Run))
     (told-short (line_in list s) (state_in s) k m n (omega (arith, few, same, c.min.ensures, c.min-shortest.ensures))) refl
 
@@ -41,7 +41,7 @@ returns g c =
     let m = length c.args.second.now in
     let n = length c.args.third.now in
     let same = ap (λ (x : Chart). largest_walk (line_from x (list c.bank-bank.result.now))) c.chart-chart.ensures.0 ∙ ap (λ (y : g.row.B.Denot). largest_walk (line_from s.chart (list y))) c.bank-bank.ensures.0 in
-    let enough = leb-true (largest_walk (line_from c.chart-chart.result.now (list c.bank-bank.result.now))) c.min-shortest.result (sym c.enough-cells.ensures ∙ c.if-not-enough-cells.false) in
+    let enough = leb-true (largest_walk (line_from c.chart-chart.result.now (list c.bank-bank.result.now))) c.min-shortest.result (sym c.enough_cells.ensures ∙ c.if-not-enough_cells.false) in
     let given =
     c.advise.ensures
     ∙ ap (λ (x : Chart). guide (line_from x (list c.bank-bank.result.now)) (row_state c.row-row.result.now)) c.chart-chart.ensures.0

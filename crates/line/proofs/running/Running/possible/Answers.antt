@@ -27,15 +27,15 @@ returns g c =
     let list = g.B.Bank.list in
     let s = c.args.self.now in
     let n = length c.args.out.now in
-    let k = c.list-possible.result in
-    let front : take k c.list-possible.new.out ≡ acceptable (line_in list s) (state_in s) =
-    c.list-possible.ensures.front
+    let k = c.list_possible.result in
+    let front : take k c.list_possible.new.out ≡ acceptable (line_in list s) (state_in s) =
+    c.list_possible.ensures.front
     ∙ ap (λ (x : Chart). acceptable (line_from x (list c.bank.result.now)) (row_state c.row-row.result.now)) c.chart.ensures.0
     ∙ ap (λ (y : g.row.B.Denot). acceptable (line_from s.chart (list y)) (row_state c.row-row.result.now)) c.bank.ensures.0
     ∙ ap (λ (z : Row). acceptable (line_in list s) (row_state z)) c.row-row.ensures.0 in
     record {
-      answered = answered-same list g.B.Bank.formed s c.row-row.ensures.1 (Possible n) (events (take k c.list-possible.new.out))
+      answered = answered-same list g.B.Bank.formed s c.row-row.ensures.1 (Possible n) (events (take k c.list_possible.new.out))
           (ap events front ∙ sym (ap (λ (b : Bool). cond b (events (acceptable (line_in list s) (state_in s))) (refused PossibleSlice)) (le-leb 64 n c.if-out-lt64.false))) refl;
-      within = omega (arith, c.list-possible.ensures.within, c.list-possible.auto.out);
-      rest = c.list-possible.ensures.rest;
+      within = omega (arith, c.list_possible.ensures.within, c.list_possible.auto.out);
+      rest = c.list_possible.ensures.rest;
     }

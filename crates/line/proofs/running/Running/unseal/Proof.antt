@@ -130,9 +130,9 @@ module _ (Y : RattleType) (g : Ghosts Y.Denot) (d : Dict) {M : Type 1} {𝓤 : U
       (WpFn 𝓤 H 𝓣.C 𝓣.Λ (function Y g d)) (WpFn-mono 𝓤 H 𝓛.laws 𝓣 (function Y g d))
       (λ z. entry 𝓣.C 𝓣.Λ z)
 
-pub unseal-spec : {M : Type 1} → stated.statement M
+pub unseal_spec : {M : Type 1} → stated.statement M
 unfolding tables_of
-unseal-spec 𝓤 𝓛 𝓜 𝓡 wired Y laws g d met =
+unseal_spec 𝓤 𝓛 𝓜 𝓡 wired Y laws g d met =
     let A = 𝓛.A in
     let 𝓣 : Tables 𝓤 𝓛.H = tables_of 𝓤 𝓛.H 𝓜 (tables 𝓤 𝓛.H 𝓜 𝓡 𝓡.env) in
     entered 𝓤 𝓛.H (triple_of 𝓛 (ended Y g d).signature (closing 𝓛 (ended Y g d) (F.clauses Y g d 𝓛 𝓜.mem 𝓡.returns))) 𝓣.C 𝓣.Λ (#self (bounded (a_type ∷ []) (Y, tt) (dcons d dnil))) (function Y g d) (code.unfolded 𝓤 𝓛.H 𝓜 𝓡 wired (Y, tt) d)
