@@ -10,13 +10,13 @@ use Rattle.verdicts.proofs.verdict.read_and_judge.Goals as goal
 
 pub returns-in_err-chart : goal.returns-in_err-chart
 returns-in_err-chart c =
-    let p = err_from_is_err_and c.from-residual.result c.from-residual.ensures.1 in
+    let p = err_from_is_err_and c.from_residual.result c.from_residual.ensures.1 in
     rw (p.1, p.2)
     (record { answer = unread (chart-unread c.args.file.now c.in_err-chart.field-0.0 (sym c.in_err-chart.ensures)); law = tt })
 
 pub returns-in_err-bank : goal.returns-in_err-bank
 returns-in_err-bank c =
-    let p = err_from_is_err_and c.from-residual-in_err-bank.result c.from-residual-in_err-bank.ensures.1 in
+    let p = err_from_is_err_and c.from_residual-in_err-bank.result c.from_residual-in_err-bank.ensures.1 in
     let k = c.in_ok-chart.chart in
     rw (p.1, p.2)
     (record {
