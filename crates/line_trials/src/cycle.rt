@@ -1,5 +1,5 @@
 // A generator of the trials' own: it goes round three states by three events.
-ghost use Rattle.trials.specs.Cycles.{cycle, cycle-formed};
+ghost use Rattle.line_trials.specs.Cycles.{cycle, cycle-formed};
 
 use generators::generator::Generator;
 use model::next::Next;
