@@ -1,7 +1,7 @@
 -- A selfloop layer over a well-formed generator is well formed. Assumes nothing.
-use Rattle.std.specs.Prelude.{◌≡◌, ℕ, ◌/◌, ◌%◌, ◌^◌, ◌<◌, ◌≤◌, Bool, true, false, cond, ◌&&◌, ◌||◌, ◌⊎◌, nat_lt, refl}
-use Rattle.std.proofs.Common.{sym, ◌∙◌, ap, inl, inr, ⊎_elim, arith}
-use Rattle.std.proofs.lemmas.Bool.{ltb-true, or_cases, or_parts, or_from, and_parts, le-ltb, cases_Bool, both_ways, eqb-true}
+use Rattle.std.specs.Prelude.{◌≡◌, ℕ, ◌<◌, ◌≤◌, Bool, true, false, cond, ◌⊎◌, nat_lt, refl}
+use Rattle.std.proofs.Common.{◌∙◌, inl, inr, ⊎_elim, arith}
+use Rattle.std.proofs.lemmas.Bool.{ltb-true, or_cases, or_parts, or_from, and_parts, le-ltb, cases_Bool, both_ways}
 use Rattle.model.specs.Generators.{Gen, WellFormed}
 use Rattle.model.specs.Sets.{bit, member}
 use Rattle.generators.specs.Selfloops.{loops, looped}

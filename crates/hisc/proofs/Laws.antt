@@ -7,7 +7,7 @@ use Rattle.hisc.specs.declared.guide.Guidance.{Guidance}
 use Rattle.hisc.specs.declared.guide.Guidance.TheVariants.{Home, NoEvent, Event}
 use Rattle.hisc.specs.Lines.{Line, State, flat, initial, moved, possible, Reached, begin, step}
 use Rattle.hisc.specs.Sizes.{Cells, enough, bound}
-use Rattle.hisc.specs.Guide.{named, guide}
+use Rattle.hisc.specs.Guide.{guide}
 use Rattle.hisc.specs.Calls.{Call, Offer, Guide, Possible, Look, Restart, Reply, accepted, guidance, refused, reply, next, after, replies}
 use Rattle.hisc.specs.Law.{followed, led_home, HomeWithin, there, onward, Lawful, AssuredThroughout}
 use Rattle.hisc.proofs.Facts.{Facts, facts}

@@ -1,19 +1,17 @@
 -- The walks of a passed line can be searched. Assumes nothing.
-use Rattle.std.proofs.Common.{◌≡◌, ℕ, ◌<◌, ◌≤◌, min, Bool, true, false, cond, not, ◌||◌, ltb, leb, List, length, sym, refl, ap, ◌∙◌, inl, inr, arith}
-use Rattle.std.proofs.lemmas.Bool.{cases_Bool, cases_lt, or_right, and_from, le-leb, lt-ltb, leb-true, leb-false}
-use Rattle.model.specs.Charts.{IsLevel}
+use Rattle.std.proofs.Common.{◌≡◌, ℕ, ◌<◌, ◌≤◌, min, Bool, true, cond, not, ◌||◌, ltb, leb, List, sym, refl, ap, inl, inr, arith}
+use Rattle.std.proofs.lemmas.Bool.{or_right, and_from, le-leb, lt-ltb}
 use Rattle.model.specs.Generators.{Gen, AllFormed}
 use Rattle.model.specs.declared.fault.Fault.{Fault}
 use Rattle.model.specs.declared.fault.Fault.TheVariants.{WorkCells}
 use Rattle.model.specs.declared.fault.Layer.TheVariants.{Run}
 use Rattle.model.proofs.Finds.{all_from}
 use Rattle.charts.specs.declared.chart.Chart.{Chart}
-use Rattle.hisc.specs.declared.guide.Guidance.{Guidance}
-use Rattle.hisc.specs.Calls.{Reply, guidance, refused, reply, Guide}
+use Rattle.hisc.specs.Calls.{guidance, refused, reply, Guide}
 use Rattle.hisc.specs.Guide.{guide}
 use Rattle.hisc.specs.Lines.{Line, State, Walk, WellMade, components, high, low}
 use Rattle.hisc.specs.Rule.{InRange}
-use Rattle.hisc.specs.Sizes.{Cells, size, largest_walk, enough}
+use Rattle.hisc.specs.Sizes.{size, largest_walk}
 use Rattle.hisc.specs.Verdict.{SizesFit, Oversize, low_walk, high_walk}
 use Rattle.hisc.proofs.Rules.{in-range}
 use Rattle.walks.specs.Given.{line_from}
@@ -21,12 +19,12 @@ use Rattle.walks.specs.Fits.{within}
 use Rattle.walks.specs.Rows.{row_state}
 use Rattle.walks.specs.declared.part.Part.TheVariants.{High, Low}
 use Rattle.walks.specs.declared.row.Row.{Row}
-use Rattle.guidance.specs.Ready.{Searchable, Ready}
+use Rattle.guidance.specs.Ready.{Ready}
 use Rattle.points.specs.Examined.{cells_in}
 use Rattle.measure.specs.Measured.{Unmeasured}
 use Rattle.points.proofs.Verdicts.{low-largest, enough-cells, few-cells-of}
 use Rattle.measure.proofs.WalkSizes.{none-refused}
-use Rattle.line.specs.Checked.{Checked, Runs}
+use Rattle.line.specs.Checked.{Runs}
 use Rattle.line.proofs.Rows.{made}
 
 module _ (l : Line) where

@@ -1,5 +1,5 @@
 -- Following the guide, offer by offer. Assumes nothing.
-use Rattle.std.proofs.Common.{◌≡◌, ℕ, zero, suc, ◌+◌, ◌-◌, ◌<◌, ◌≤◌, Bool, true, false, cond, List, [], ◌∷◌, ◌++◌, length, Ok, Err, Result, sym, refl, ap, ◌∙◌, subst, ap₂, inl, inr, arith, length-append}
+use Rattle.std.proofs.Common.{◌≡◌, ℕ, zero, suc, ◌+◌, ◌-◌, ◌<◌, ◌≤◌, Bool, true, false, cond, List, [], ◌∷◌, ◌++◌, length, sym, refl, ap, ◌∙◌, subst, ap₂, inl, inr, arith, length-append}
 use Rattle.std.proofs.lemmas.Bool.{cases_Bool}
 use Rattle.model.specs.Generators.{Gen}
 use Rattle.model.specs.declared.fault.Fault.{Fault}
@@ -8,15 +8,15 @@ use Rattle.model.specs.declared.fault.Layer.TheVariants.{Run}
 use Rattle.charts.specs.declared.chart.Chart.{Chart}
 use Rattle.hisc.specs.declared.guide.Guidance.{Guidance}
 use Rattle.hisc.specs.declared.guide.Guidance.TheVariants.{Home, NoEvent, Event}
-use Rattle.hisc.specs.Calls.{Call, Offer, Guide, Reply, accepted, guidance, refused, reply, next, after, replies}
+use Rattle.hisc.specs.Calls.{Offer, Guide, Reply, accepted, guidance, refused, reply, next, after, replies}
 use Rattle.hisc.specs.Guide.{guide}
 use Rattle.hisc.specs.Law.{followed, led_home, HomeWithin, there, onward, Assured}
-use Rattle.hisc.specs.Lines.{Line, State, flat, moved, possible, marked}
+use Rattle.hisc.specs.Lines.{Line, State, flat, moved, possible}
 use Rattle.hisc.specs.Sizes.{Cells, enough, bound}
 use Rattle.hisc.proofs.Laws.{asked, offered as offered-reply}
 use Rattle.hisc.proofs.Replies.{possible_accepted}
 use Rattle.points.specs.Examined.{cells_in}
-use Rattle.line.specs.Answers.{offered, guided, line_in, state_in, Answered}
+use Rattle.line.specs.Answers.{line_in, state_in, Answered}
 use Rattle.walks.specs.Given.{line_from}
 use Rattle.line.specs.Home.{WentHome, NotGuided}
 use Rattle.line.specs.declared.running.Running.{Running}

@@ -1,12 +1,11 @@
 -- The list of a file view. Assumes nothing.
-use Rattle.std.proofs.Common.{◌≡◌, ℕ, ◌+◌, ◌<◌, ◌≤◌, Bool, true, false, not, ◌&&◌, List, [], map, length, get_or, sym, refl, ap, ◌∙◌, arith, Bor}
+use Rattle.std.proofs.Common.{◌≡◌, ℕ, ◌<◌, ◌≤◌, Bool, List, [], length, get_or, refl, arith, Bor}
 use mathlib.Core.Path.{fun_ext}
-use Rattle.std.specs.List.{range_with_len}
 use Rattle.std.proofs.lemmas.List.FromFn.{length-map-range_with_len, get_or-map-range_with_len}
 use Rattle.std.proofs.lemmas.List.{get_or_past, get_or-map, length-map}
-use Rattle.model.specs.Generators.{Gen, nothing}
+use Rattle.model.specs.Generators.{nothing}
 use Rattle.generators.specs.Selfloops.{looped}
-use Rattle.makes.specs.Shapes.{Shape, shape_in}
+use Rattle.makes.specs.Shapes.{Shape}
 use Rattle.makes.specs.Meanings.{gen_of}
 use Rattle.linefile.specs.Bank.{component_from, list_from}
 use Rattle.linefile.specs.Layout.{texts}

@@ -1,8 +1,7 @@
 -- The bodies of the components, one after the other. Assumes nothing.
-use Rattle.std.proofs.Common.{◌≡◌, ℕ, suc, ◌+◌, ◌*◌, ◌<◌, ◌≤◌, List, [], length, get_or, Some, Ok, Err, Result, sym, refl, ap, ◌∙◌, subst, add-one, arith, Bor}
-use Rattle.model.specs.Readings.{meant, in_turn}
-use Rattle.model.specs.declared.fault.Fault.{Fault}
-use Rattle.model.proofs.Turns.{turn_on, turn-off}
+use Rattle.std.proofs.Common.{◌≡◌, ℕ, ◌+◌, ◌<◌, ◌≤◌, List, [], length, get_or, Some, Ok, sym, refl, ap, ◌∙◌, add-one, arith, Bor}
+use Rattle.model.specs.Readings.{in_turn}
+use Rattle.model.proofs.Turns.{turn_on}
 use Rattle.makes.specs.Shapes.{Shape}
 use Rattle.makes.specs.Bodies.{body_reading}
 use Rattle.linefile.specs.Layout.{rows, components, row_length, body_start, body_of, row_reading, texts, Found}

@@ -1,9 +1,9 @@
 -- The readings of a line file, step by step. Assumes nothing.
-use Rattle.std.proofs.Common.{◌≡◌, ℕ, suc, ◌+◌, ◌*◌, ◌<◌, ◌≤◌, List, map, Ok, Err, Result, sym, refl, ap, ◌∙◌, arith}
+use Rattle.std.proofs.Common.{◌≡◌, ℕ, suc, List, map, Ok, Err, refl, ap}
 use Rattle.std.specs.List.{range_with_len}
 use Rattle.model.specs.Charts.{EventChart}
 use Rattle.model.specs.Generators.{Gen}
-use Rattle.model.specs.Readings.{and_then, provided, in_turn}
+use Rattle.model.specs.Readings.{in_turn}
 use Rattle.model.specs.declared.fault.Fault.{Fault}
 use Rattle.charts.specs.Headers.{Sizes, header_reading}
 use Rattle.charts.specs.Rows.{rows_reading}

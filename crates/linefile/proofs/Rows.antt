@@ -1,11 +1,11 @@
 -- The contents rows, one after the other. Assumes nothing.
-use Rattle.std.proofs.Common.{◌≡◌, ℕ, suc, ◌+◌, ◌-◌, ◌*◌, ◌<◌, ◌≤◌, Bool, true, false, eqb, leb, ◌⊎◌, List, [], map, length, get_or, take, drop, set, Ok, Err, Result, sym, refl, ap, ◌∙◌, subst, inl, inr, ⊎_elim, add-one, arith, Bor}
+use Rattle.std.proofs.Common.{◌≡◌, ℕ, ◌+◌, ◌-◌, ◌*◌, ◌<◌, ◌≤◌, Bool, true, false, eqb, leb, List, [], length, get_or, take, drop, set, Ok, Err, Result, sym, refl, ap, ◌∙◌, subst, ⊎_elim, add-one, arith, Bor}
 use Rattle.std.proofs.lemmas.List.{get_or-map, length-take, take_rest, get_or-drop, length-drop, length-map, map-set, get_or-set_same, get_or-set_other}
-use Rattle.std.proofs.lemmas.Bool.{cases_lt, eqb-true, leb-true, lt-leb, le-leb, eq-eqb, ne_eqb}
+use Rattle.std.proofs.lemmas.Bool.{cases_lt, leb-true, lt-leb, le-leb, eq-eqb, ne_eqb}
 use Rattle.model.specs.declared.fault.Fault.{Fault}
 use Rattle.model.specs.declared.fault.Fault.TheVariants.{Contents}
-use Rattle.model.specs.Readings.{meant, provided, and_then, in_turn}
-use Rattle.model.proofs.Turns.{provided-ok, turn_on, turn-off, turn_at}
+use Rattle.model.specs.Readings.{provided, in_turn}
+use Rattle.model.proofs.Turns.{provided-ok, turn_on, turn_at}
 use Rattle.linefile.specs.Layout.{rows, contents_end, row_start, row_length, body_start, body_of, row_reading, contents_reading, texts, Found}
 
 -- the part after the first n

@@ -1,5 +1,5 @@
 -- The components that a file view holds are those of the file. Assumes nothing.
-use Rattle.std.proofs.Common.{◌≡◌, ℕ, zero, suc, ◌+◌, ◌*◌, ◌/◌, ◌<◌, ◌≤◌, Bool, true, false, cond, not, ◌&&◌, ◌||◌, eqb, ltb, leb, ◌⊎◌, List, [], ◌∷◌, map, length, get_or, Ok, Err, Result, sym, refl, ap, ◌∙◌, subst, ap₂, inl, inr, add-one, arith}
+use Rattle.std.proofs.Common.{◌≡◌, ℕ, zero, suc, ◌+◌, ◌*◌, ◌<◌, ◌≤◌, Bool, true, false, cond, not, ◌&&◌, ◌||◌, eqb, ltb, leb, List, [], ◌∷◌, map, length, get_or, Ok, Err, Result, sym, refl, ap, ◌∙◌, subst, ap₂, add-one, arith}
 use mathlib.Core.Path.{fun_ext}
 use Rattle.std.specs.List.{range_with_len}
 use Rattle.std.proofs.lemmas.Bool.{leb-true}
@@ -18,7 +18,7 @@ use Rattle.charts.specs.Rows.{rows_reading, chart_in, first_wrong, lacking}
 use Rattle.makes.specs.Shapes.{shape_in}
 use Rattle.makes.specs.Meanings.{gen_of}
 use Rattle.linefile.specs.Bank.{level_of, is_interface, alphabet_of, component_in, component_from, list_from}
-use Rattle.linefile.specs.Layout.{components, rows, body_of, row_reading, contents_reading, texts, Found}
+use Rattle.linefile.specs.Layout.{components, rows, body_of, row_reading, contents_reading, Found}
 
 or-false : (b : Bool) → (b || false) ≡ b
 or-false true = refl

@@ -1,11 +1,11 @@
 -- What a line file means: its chart, and the list of its components. Assumes nothing.
-use Rattle.std.specs.Prelude.{ℕ, suc, List, map, Some, Ok, Err, Result}
+use Rattle.std.specs.Prelude.{ℕ, suc, List, map, Some, Ok, Result}
 use Rattle.std.specs.List.{range_with_len}
 use Rattle.model.specs.Charts.{EventChart}
 use Rattle.model.specs.Generators.{Gen}
 use Rattle.model.specs.Readings.{and_then, in_turn}
 use Rattle.model.specs.declared.fault.Fault.{Fault}
-use Rattle.charts.specs.Headers.{Sizes, header_reading}
+use Rattle.charts.specs.Headers.{header_reading}
 use Rattle.charts.specs.Rows.{rows_reading}
 use Rattle.makes.specs.Shapes.{Shape}
 use Rattle.makes.specs.Bodies.{body_reading}

@@ -1,5 +1,5 @@
 -- Where the parts of a line file stand: three bytes, contents rows of four bytes, and the bodies back to back to the file's end. Assumes nothing.
-use Rattle.std.specs.Prelude.{◌≡◌, ℕ, zero, suc, ◌+◌, ◌*◌, ◌<◌, List, [], map, length, take, drop, Ok, Err, Result, ◌==◌, nat_le, slice_index, slice_index_or}
+use Rattle.std.specs.Prelude.{◌≡◌, ℕ, zero, suc, ◌+◌, ◌*◌, ◌<◌, List, [], map, length, take, drop, Ok, Result, ◌==◌, nat_le, slice_index, slice_index_or}
 use Rattle.std.specs.Borrow.{Bor}
 use Rattle.model.specs.Readings.{provided, and_then, in_turn}
 use Rattle.model.specs.declared.fault.Fault.{Fault}

@@ -1,10 +1,8 @@
 -- The first place that does not pass. Assumes nothing.
-use Rattle.std.proofs.Common.{◌≡◌, ℕ, ◌<◌, ◌≤◌, Bool, true, false, not, ◌⊎◌, sym, refl, ap, ◌∙◌, inl, inr, arith}
-use mathlib.Core.Option.{Option, none, some}
+use Rattle.std.proofs.Common.{◌≡◌, ℕ, ◌<◌, ◌≤◌, Bool, true, false, not, refl, ap, ◌∙◌, inl, inr, arith}
 use Rattle.std.proofs.lemmas.Bool.{cases_lt}
-use Rattle.model.specs.Numbers.{first}
 use Rattle.model.specs.Readings.{first_off, or_bound}
-use Rattle.model.proofs.Finds.{IsFirst, first-or, is-first, never}
+use Rattle.model.proofs.Finds.{first-or, is-first, never}
 
 flip : (b : Bool) → b ≡ true → not b ≡ false
 flip b h = rw h refl

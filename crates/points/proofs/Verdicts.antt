@@ -1,9 +1,8 @@
 -- From the parts of the examination to its verdict. Assumes nothing.
-use Rattle.std.proofs.Common.{◌≡◌, ℕ, zero, suc, ◌<◌, ◌≤◌, min, max, true, false, ◌&&◌, leb, List, [], ◌∷◌, ◌++◌, Some, None, Ok, Err, Result, sym, refl, ap, ◌∙◌, subst, inl, inr, arith}
+use Rattle.std.proofs.Common.{◌≡◌, ℕ, zero, suc, ◌<◌, ◌≤◌, min, max, true, false, ◌&&◌, leb, Some, Ok, Err, Result, sym, ap, ◌∙◌, subst, inl, inr, arith}
 use Rattle.std.proofs.lemmas.Bool.{cases_lt, and_from, and_left, and_right, le-leb, lt-leb}
 use Rattle.model.specs.Charts.{IsLevel}
 use Rattle.model.specs.declared.fault.Fault.{Fault}
-use Rattle.model.proofs.Finds.{below_suc}
 use Rattle.hisc.specs.Lines.{Line, high, low}
 use Rattle.hisc.specs.Sizes.{Cells, greatest, largest_low, largest_walk, size, enough}
 use Rattle.hisc.specs.Verdict.{tests, SizesFit, Verdict, incomplete, oversize, faulty, passed}

@@ -10,7 +10,7 @@ use Rattle.hisc.specs.Lines.{high}
 use Rattle.hisc.specs.Sizes.{Cells, size}
 use Rattle.verdicts.specs.declared.verdict.Verdict.{Verdict}
 use Rattle.verdicts.specs.declared.verdict.Verdict.TheVariants.{Passed, Faulty}
-use Rattle.verdicts.specs.Verdicts.{FileLine, the_line, line_reading, Told, passed, faulty, told_in, CheckedAs, VerdictOn, unread, refused, sound, KeepsLaw, PassedKeepsLaw}
+use Rattle.verdicts.specs.Verdicts.{FileLine, the_line, line_reading, Told, passed, faulty, told_in, CheckedAs, VerdictOn, refused, sound, PassedKeepsLaw}
 use Rattle.verdicts.proofs.OneVerdict.{same_line}
 
 module _ (file : List ℕ) where

@@ -1,4 +1,4 @@
-use Rattle.std.proofs.Common.{◌≡◌, ℕ, ◌<◌, ◌≤◌, length, get_or}
+use Rattle.std.proofs.Common.{◌≡◌, ℕ, ◌<◌, length, get_or}
 use Rattle.model.specs.Sets.{member}
 use Rattle.charts.specs.Meanings.{chart_of}
 use Rattle.linefile.specs.Bank.{alphabet_of}

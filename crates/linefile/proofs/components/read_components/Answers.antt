@@ -1,9 +1,8 @@
-use Rattle.std.proofs.Common.{◌≡◌, ℕ, ◌+◌, ◌<◌, ◌≤◌, List, length, get_or, Some, sym, refl, ap, ◌∙◌, arith}
+use Rattle.std.proofs.Common.{ℕ, ◌+◌, List, length, get_or, sym, refl, ap, ◌∙◌, arith}
 use Rattle.std.proofs.lemmas.Result.{err_from_is_err_and}
 use Rattle.model.proofs.Turns.{turn-off}
-use Rattle.makes.specs.Bodies.{body_reading}
 use Rattle.makes.specs.Shapes.{shape}
-use Rattle.linefile.specs.Layout.{components, rows, contents_end, body_start, body_of}
+use Rattle.linefile.specs.Layout.{components}
 use Rattle.linefile.specs.File.{component_reading}
 use Rattle.linefile.proofs.ComponentSteps as steps
 use Rattle.linefile.proofs.components.read_components.Goals as goal

@@ -1,4 +1,4 @@
-use Rattle.std.proofs.Common.{◌≡◌, ℕ, ◌+◌, Ok}
+use Rattle.std.proofs.Common.{◌≡◌, ◌+◌, Ok}
 use Rattle.model.specs.Readings.{in_turn}
 use Rattle.linefile.specs.Layout.{body_start}
 use Rattle.linefile.specs.File.{component_reading}

@@ -16,7 +16,7 @@ use contract.Running.{tables, tables_of}
 use denote.Builtin.{RefOf}
 use denote.Exit.{yes}
 use denote.RattleType.{RattleType, owns}
-use denote.Memory.{lone, shared_of, hidden_shr}
+use denote.Memory.{lone, hidden_shr}
 use denote.Opens.{shr_dup, unhide}
 use denote.Param.Laws.{Laws, param_laws}
 use denote.Param.{layout, bounded, param}

@@ -1,4 +1,4 @@
-use Rattle.std.proofs.Common.{◌≡◌, length, subst, arith}
+use Rattle.std.proofs.Common.{length, subst, arith}
 use Rattle.std.proofs.lemmas.Result.{err_from_is_err_and}
 use Rattle.hisc.specs.Calls.{Guide, guidance}
 use Rattle.hisc.specs.declared.guide.Guidance.{Guidance}

@@ -1,4 +1,4 @@
-use Rattle.std.proofs.Common.{◌≡◌, ℕ, ◌+◌, List, [], length, get_or, sym, refl, ap, ◌∙◌, arith, Bor, rules}
+use Rattle.std.proofs.Common.{◌≡◌, ℕ, ◌+◌, List, [], length, get_or, sym, ap, ◌∙◌, arith, Bor, rules}
 use Rattle.linefile.specs.Layout.{texts}
 use Rattle.makes.specs.Shapes.{shape_in}
 use Rattle.linefile.proofs.Banked.{text_at, text-past}

@@ -1,4 +1,4 @@
-use Rattle.std.proofs.Common.{◌≡◌, sym, refl, ap, ◌∙◌}
+use Rattle.std.proofs.Common.{sym, ap, ◌∙◌}
 use Rattle.model.specs.Generators.{Gen}
 use Rattle.linefile.specs.Layout.{texts}
 use Rattle.linefile.proofs.Banked.{list_at, list-past}

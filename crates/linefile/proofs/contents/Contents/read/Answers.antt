@@ -1,6 +1,5 @@
-use Rattle.std.proofs.Common.{◌≡◌, ℕ, ◌+◌, ◌*◌, ◌<◌, ◌≤◌, List, length, sym, refl, ap, ◌∙◌, arith}
+use Rattle.std.proofs.Common.{◌*◌, sym, ap, ◌∙◌, arith}
 use Rattle.std.proofs.lemmas.Result.{err_from_is_err_and}
-use Rattle.linefile.specs.Layout.{contents_end, row_length, body_start, rows}
 use Rattle.linefile.proofs.Rows.{first-length, contents-short, contents-row, contents-events, contents-spare, contents-whole}
 use Rattle.linefile.proofs.contents.Contents.read.Goals as goal
 

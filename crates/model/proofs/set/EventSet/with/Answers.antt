@@ -1,4 +1,3 @@
-use Rattle.std.proofs.Common.{◌≡◌, sym, refl, ap, ◌∙◌}
 use Rattle.model.proofs.Bitwords.{member-with}
 use Rattle.model.proofs.set.EventSet.with.Goals as goal
 
