@@ -7,7 +7,7 @@ mod condition;
 mod conditions;
 pub mod examination;
 mod fitting;
+mod flags;
 mod levels;
 mod loss;
 mod marking;
-mod search;
