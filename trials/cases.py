@@ -9,25 +9,9 @@ import sys
 here = os.path.dirname(os.path.abspath(__file__))
 sys.path.insert(0, here)
 import oracle
+from sketches import build, table
 
 crate = os.path.join(here, "..", "crates", "trials")
-
-
-def table(E, initial, letters, marks, moves):
-    n = len(marks)
-    targets = [255] * (n * E)
-    for (s, e), t in moves.items():
-        targets[s * E + e] = t
-    return b"T" + bytes([n, initial]) + letters.encode() + marks.encode() + bytes(targets)
-
-
-def build(n, events, bodies):
-    rows = [b"".join(k.encode() + bytes([o]) + c.encode() for k, o, c in events)] + bodies
-    out, at = bytes([1, n, len(events)]), 3 + 4 * len(rows)
-    for r in rows:
-        out += at.to_bytes(2, "big") + len(r).to_bytes(2, "big")
-        at += len(r)
-    return out + b"".join(rows)
 
 
 def small_line():
