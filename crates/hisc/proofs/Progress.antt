@@ -2,7 +2,7 @@
 use Rattle.std.proofs.Common.{◌≡◌, ℕ, zero, suc, ◌+◌, ◌-◌, ◌*◌, ◌<◌, ◌≤◌, true, false, not, leb, ◌≢◌, ◌⊎◌, sym, refl, ap, ◌∙◌, subst, inl, inr, mul-le-mul_right, arith}
 use mathlib.Core.Option.{Option, none, some}
 use native.Mathlib.Nat.{le-max_left, le-max_right}
-use Rattle.std.proofs.lemmas.Bool.{cases_Bool, cases_eq, and_parts, leb-true, not-true}
+use Rattle.std.proofs.lemmas.Bool.{false_from_ne_true, cases_eq, and_parts, leb-true, not-true}
 use Rattle.model.specs.Numbers.{any, first}
 use Rattle.model.specs.Generators.{forbids}
 use Rattle.model.specs.Charts.{IsLevel, is_high, is_low, is_answer}
@@ -41,6 +41,14 @@ module _ (l : Line) (F : Facts l) (W : ℕ) (wide : (j : ℕ) → IsLevel l.char
 
     others : (e i : ℕ) → IsLevel l.chart i → l.chart.owner e ≢ i → Same l (low l i) (moved l x e) x
     others e i v d = same-sym l (low l i) x (moved l x e) (still l (low l i) x e (low-unknown l F.known i e v (low-other l i e d)))
+
+    -- an event that the level of its owner permits is no other level's
+    owned : (e : ℕ) → possible l (low l (l.chart.owner e)) x e ≡ true → (i : ℕ) → IsLevel l.chart i → (possible l (low l i) x e ≡ true) ⊎ ((low l i).alphabet e ≡ false)
+    owned e p i v =
+        elim (cases_eq (l.chart.owner e) i) [
+          | inl z ↦ inl (subst (λ (m : ℕ). possible l (low l m) x e ≡ true) z p)
+          | inr z ↦ inr (low-other l i e z)
+        ]
 
     -- the terms of all levels, from those of the levels that do not own e and of the one that does
     around : (skip skip' e : ℕ) → ((i : ℕ) → IsLevel l.chart i → l.chart.owner e ≢ i → (i ≢ skip) × (i ≢ skip')) →
@@ -102,10 +110,7 @@ module _ (l : Line) (F : Facts l) (W : ℕ) (wide : (j : ℕ) → IsLevel l.char
           a : possible l (flat l) x e ≡ true
           a =
               accept l F.known x e lt (inl p)
-              (λ i u. elim (cases_eq (l.chart.owner e) i) [
-                | inl z ↦ inl (subst (λ (m : ℕ). possible l (low l m) x e ≡ true) z lo)
-                | inr z ↦ inr (low-other l i e z)
-              ])
+              (owned e lo)
 
           tight : term l 0 (moved l x e) (l.chart.owner e) ≤ term l 0 x (l.chart.owner e)
           tight =
@@ -127,20 +132,14 @@ module _ (l : Line) (F : Facts l) (W : ℕ) (wide : (j : ℕ) → IsLevel l.char
 
         unmarked : is_marked l (interface (l.chart.owner e)) x ≡ false
         unmarked =
-            elim (cases_Bool (is_marked l (interface (l.chart.owner e)) x)) [
-              | inl t ↦ answer≢request k (F.pair_requests (l.chart.owner e) level x near t e al).0
-              | inr f ↦ f
-            ]
+            false_from_ne_true (is_marked l (interface (l.chart.owner e)) x) (λ t. answer≢request k (F.pair_requests (l.chart.owner e) level x near t e al).0)
 
         case-now : low_distance l (l.chart.owner e) (to_answer l (l.chart.owner e) e) x ≡ some 0 → Named x e
         unfolding low_distance
         case-now c =
             let lo : possible l (low l (l.chart.owner e)) x e ≡ true = (dist-is (to_answer l (l.chart.owner e) e) (size l (low l (l.chart.owner e))) 0 x c).1 in
             let a = accept l F.known x e lt (inl p)
-            (λ i u. elim (cases_eq (l.chart.owner e) i) [
-              | inl z ↦ inl (subst (λ (m : ℕ). possible l (low l m) x e ≡ true) z lo)
-              | inr z ↦ inr (low-other l i e z)
-            ]) in
+            (owned e lo) in
             let m = (F.pair_answers (l.chart.owner e) level x near unmarked e al).1 in
             let t = term-clear l 0 (moved l x e) (l.chart.owner e) (narrowed-marked l F (moved l x e) (l.chart.owner e) m) in
             let s = count-le l 0 (l.chart.owner e) (moved l x e) x (around 0 (l.chart.owner e) e (λ i v z. (omega (arith, v), omega arith)) (λ v. omega (arith, t))) in
@@ -157,10 +156,7 @@ module _ (l : Line) (F : Facts l) (W : ℕ) (wide : (j : ℕ) → IsLevel l.char
       low-accepted : possible l (flat l) x e ≡ true
       low-accepted =
           accept l F.known x e (low_below l j e (possible-alphabet l (low l j) x e low-possible)) (inr (low-not-high l e (low_enabled-parts l j x e c).1))
-          (λ i u. elim (cases_eq j i) [
-            | inl z ↦ inl (subst (λ (m : ℕ). possible l (low l m) x e ≡ true) z low-possible)
-            | inr z ↦ inr (low-other l i e (omega (arith, low-owned)))
-          ])
+          (owned e (subst (λ (m : ℕ). possible l (low l m) x e ≡ true) (sym low-owned) low-possible))
 
       high-unmoved : Same l (high l) (moved l x e) x
       high-unmoved = same-sym l (high l) x (moved l x e) (still l (high l) x e (high-unknown l F.known e (low-not-high l e (low_enabled-parts l j x e c).1)))
@@ -250,10 +246,7 @@ module _ (l : Line) (F : Facts l) (W : ℕ) (wide : (j : ℕ) → IsLevel l.char
             acc : possible l (flat l) x a ≡ true
             acc =
                 accept l F.known x a below (inl hi)
-                (λ i u. elim (cases_eq own i) [
-                  | inl z ↦ inl (subst (λ (m : ℕ). possible l (low l m) x a ≡ true) z lo)
-                  | inr z ↦ inr (low-other l i a (omega (arith, own-a)))
-                ])
+                (owned a (subst (λ (m : ℕ). possible l (low l m) x a ≡ true) (sym own-a) lo))
 
             clear : term l 0 (moved l x a) own ≡ 0
             clear =

@@ -1,8 +1,8 @@
 -- The replies and the states of queues of calls fit together. Assumes nothing.
-use Rattle.std.proofs.Common.{◌≡◌, ℕ, zero, suc, ◌+◌, ◌<◌, ◌≤◌, Bool, true, false, cond, ◌&&◌, eqb, ltb, ◌⊎◌, List, [], ◌∷◌, ◌++◌, length, get_or, sym, refl, ap, ◌∙◌, subst, ap₂, inl, inr, arith, length-append}
+use Rattle.std.proofs.Common.{◌≡◌, ℕ, zero, suc, ◌+◌, ◌<◌, Bool, true, false, cond, ◌&&◌, eqb, ltb, ◌⊎◌, List, [], ◌∷◌, ◌++◌, length, get_or, sym, refl, ap, ◌∙◌, subst, ap₂, inl, inr, arith, length-append}
 use mathlib.Core.Option.{Option}
 use Rattle.std.proofs.lemmas.List.{get_or_append_left, get_or_push}
-use Rattle.std.proofs.lemmas.Bool.{cases_Bool, cases_eq, and_parts, and_from, eq-eqb, ne_eqb, ltb-true, lt-ltb}
+use Rattle.std.proofs.lemmas.Bool.{cases_Bool, cases_eq, and_parts, and_from, eq-eqb, ne_eqb, ltb-true, lt-ltb, le-ltb}
 use Rattle.model.specs.Generators.{Gen, forbids, moves}
 use Rattle.model.specs.declared.fault.Fault.{Fault}
 use Rattle.model.specs.declared.fault.Fault.TheVariants.{EventNumber}
@@ -53,18 +53,15 @@ module _ (l : Line) where
   refused_stays x (Guide cells) f q = refl
   refused_stays x (Possible k) f q = refl
   refused_stays x Look f q = refl
-  refused_stays x Restart f q = absurd (let z : ◌≡◌ {A = ℕ} 0 1 = cc in omega arith)
+  refused_stays x Restart f q = absurd cc
 
 -- lists of the events that pass
 occurs-join : (e : ℕ) (a b : List ℕ) → occurs e (a ++ b) ≡ occurs e a + occurs e b
 occurs-join e [] b = omega arith
 occurs-join e (d ∷ a) b = omega (arith, occurs-join e a b)
 
-not-below : (e n : ℕ) → n ≤ e → ltb e n ≡ false
-not-below e n ge = elim (cases_Bool (ltb e n)) [ inl t ↦ absurd (omega (arith, ltb-true e n t)) | inr f ↦ f ]
-
 pub occurs-passing : (n : ℕ) (p : ℕ → Bool) (e : ℕ) → occurs e (passing n p) ≡ cond (ltb e n && p e) 1 0
-occurs-passing zero p e = sym (ap (λ (b : Bool). cond (b && p e) 1 0) (not-below e 0 (omega arith)))
+occurs-passing zero p e = sym (ap (λ (b : Bool). cond (b && p e) 1 0) (le-ltb e 0 (omega arith)))
 occurs-passing (suc n) p e =
     occurs-join e (passing n p) (cond (p n) (n ∷ []) []) ∙ ap (λ (m : ℕ). m + occurs e (cond (p n) (n ∷ []) [])) (occurs-passing n p e) ∙ last (cases_eq e n)
   where
@@ -82,7 +79,7 @@ occurs-passing (suc n) p e =
 
     at_n : cond (ltb n n && p n) 1 0 + occurs n (cond (p n) (n ∷ []) []) ≡ cond (ltb n (suc n) && p n) 1 0
     at_n =
-        ap₂ (λ (a b : ℕ). a + b) (ap (λ (b : Bool). cond (b && p n) 1 0) (not-below n n (omega arith))) (one n (p n) ∙ ap (λ (b : Bool). cond (p n && b) 1 0) (eq-eqb n n refl)) ∙
+        ap₂ (λ (a b : ℕ). a + b) (ap (λ (b : Bool). cond (b && p n) 1 0) (le-ltb n n (omega arith))) (one n (p n) ∙ ap (λ (b : Bool). cond (p n && b) 1 0) (eq-eqb n n refl)) ∙
         both (p n) ∙ sym (ap (λ (b : Bool). cond (b && p n) 1 0) (lt-ltb n (suc n) (omega arith)))
 
     last : (e ≡ n) ⊎ (e ≡ n → ⊥) → cond (ltb e n && p e) 1 0 + occurs e (cond (p n) (n ∷ []) []) ≡ cond (ltb e (suc n) && p e) 1 0

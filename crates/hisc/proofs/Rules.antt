@@ -114,10 +114,10 @@ module _ (l : Line) where
 
 -- where an answer of the guide comes from
 event-is : {X : Type 0} {e : ℕ} → NoEvent ≡ Event e → X
-event-is {e = e} q = absurd (let z : ◌≡◌ {A = ℕ} 0 1 = cc in omega arith)
+event-is {e = e} q = absurd cc
 
 home-is : {X : Type 0} {e : ℕ} → Home ≡ Event e → X
-home-is {e = e} q = absurd (let z : ◌≡◌ {A = ℕ} 0 1 = cc in omega arith)
+home-is {e = e} q = absurd cc
 
 same-event : (d e : ℕ) → Event d ≡ Event e → d ≡ e
 same-event d e q = cc

@@ -1,7 +1,7 @@
 -- Distances are the lengths of shortest words. Assumes nothing.
 use Rattle.std.proofs.Common.{◌≡◌, ℕ, zero, suc, true, ◌&&◌, List, [], ◌∷◌, length, refl, ap, ◌∙◌, subst, inl, inr, arith}
 use mathlib.Core.Option.{some}
-use Rattle.std.proofs.lemmas.Bool.{and_parts, and_from, cases_Bool, cases_lt}
+use Rattle.std.proofs.lemmas.Bool.{and_parts, and_from, false_from_ne_true, cases_lt}
 use Rattle.model.specs.Automata.{Automaton, Leads, reaches, distance, lowest}
 use Rattle.model.proofs.Finds.{never, first-is, is-first}
 use Rattle.model.proofs.Words.{reach_step, leads-reach, dist-is, dist-step}
@@ -62,12 +62,9 @@ module _ (l : Line) {w : Walk} {a : Automaton State} (o : Over l w a) where
       is-first a.events (λ i. a.enabled x i && reaches a d (a.move x i)) e (record {
         within = o.below x e s.enabled;
         holds = and_from (a.enabled x e) (reaches a d (a.move x e)) s.enabled (near-reaches (a.move x e) d s.left);
-        before = λ i lt. elim (cases_Bool (a.enabled x i && reaches a d (a.move x i))) [
-          | inl t ↦
-              let b = and_parts (a.enabled x i) (reaches a d (a.move x i)) t in
-              absurd (s.lowest i lt b.0 (distance-near (a.move x i) d (dist-step a (size l w) d x i q (o.below x i b.0) b.0 b.1)))
-          | inr f ↦ f
-        ];
+        before = λ i lt. false_from_ne_true (a.enabled x i && reaches a d (a.move x i)) (λ t.
+            let b = and_parts (a.enabled x i) (reaches a d (a.move x i)) t in
+            s.lowest i lt b.0 (distance-near (a.move x i) d (dist-step a (size l w) d x i q (o.below x i b.0) b.0 b.1)));
       })
 
   over-distances : WellMade l → Distances l w a

@@ -1,6 +1,6 @@
 -- The small line and its variants, by computation. Assumes nothing.
 use Rattle.std.proofs.Common.{◌≡◌, ℕ, ◌<◌, ◌≤◌, Bool, true, false, cond, ◌&&◌, eqb, ltb, leb, List, [], ◌∷◌, ◌++◌, Some, None, sym, refl, ap, ◌∙◌, subst, inl, inr, arith, lit<}
-use Rattle.std.proofs.lemmas.Bool.{and_parts, or_cases, cases_Bool, ltb-true, leb-true, eqb-true, ne_eqb}
+use Rattle.std.proofs.lemmas.Bool.{and_parts, or_cases, false_from_ne_true, cases_Bool, ltb-true, leb-true, eqb-true, ne_eqb}
 use Rattle.model.specs.Generators.{Gen, WellFormed}
 use Rattle.model.specs.Numbers.{all}
 use Rattle.model.specs.Charts.{EventChart, WellCharted, is_high, owns_request, owns_answer}
@@ -50,7 +50,7 @@ not-foreign (m ∷ ms) s e = go (eqb m.from s && eqb m.event e) (not-foreign ms 
     go false h = h
 
 next-within : (n : ℕ) (ms : List Move) → every (within n) ms ≡ true → (s e t : ℕ) → next_by ms s e ≡ To t → t < n
-next-within n [] h s e t q = absurd (let z : ◌≡◌ {A = ℕ} 0 1 = cc in omega arith)
+next-within n [] h s e t q = absurd cc
 next-within n (m ∷ ms) h s e t q =
     let r = and_parts (within n m) (every (within n) ms) h in
     go (eqb m.from s && eqb m.event e) r.0 (next-within n ms r.1 s e t) q
@@ -82,13 +82,11 @@ formed n known marks moves t =
       events = λ e k. ltb-true e 64 (every-member (λ e. ltb e 64) known q.0 e k);
       marks = λ s m. ltb-true s n (every-member (λ s. ltb s n) marks r.0 s m);
       foreign = λ s e u. ap (λ (b : Bool). cond b (next_by moves s e) Foreign) u;
-      known = λ s e f. elim (cases_Bool (member known e)) [
-        | inl k ↦ never (ap is_foreign f) (ap (λ (b : Bool). is_foreign (cond b (next_by moves s e) Foreign)) k ∙ not-foreign moves s e)
-        | inr u ↦ u
-      ];
+      known = λ s e f. false_from_ne_true (member known e) (λ k.
+          never (ap is_foreign f) (ap (λ (b : Bool). is_foreign (cond b (next_by moves s e) Foreign)) k ∙ not-foreign moves s e));
       inside = λ s e t q. elim (cases_Bool (member known e)) [
         | inl k ↦ next-within n moves r.1 s e t (sym (ap (λ (b : Bool). cond b (next_by moves s e) Foreign) k) ∙ q)
-        | inr u ↦ absurd (let f : Foreign ≡ To t = sym (ap (λ (b : Bool). cond b (next_by moves s e) Foreign) u) ∙ q in let z : ◌≡◌ {A = ℕ} 0 1 = cc in omega arith)
+        | inr u ↦ absurd (let f : Foreign ≡ To t = sym (ap (λ (b : Bool). cond b (next_by moves s e) Foreign) u) ∙ q in cc)
       ];
       beyond = λ s e k ge. ap (λ (b : Bool). cond b (next_by moves s e) Foreign) k ∙ next-beyond n moves r.1 s e ge;
     }
