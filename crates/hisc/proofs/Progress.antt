@@ -222,7 +222,7 @@ module _ (l : Line) (F : Facts l) (W : ℕ) (wide : (j : ℕ) → IsLevel l.char
         case-other a c below can = record { accepted = acc; falls = falling }
           where
             lo : possible l (low l own) x a ≡ true
-            lo = (and_parts (possible l (low l own) x a) (is_answer (l.chart.kind a)) can).0
+            lo = (and_parts _ _ can).0
 
             ka : l.chart.kind a ≡ Answer
             ka = is-answer (l.chart.kind a) (and_parts (possible l (low l own) x a) (is_answer (l.chart.kind a)) can).1
@@ -339,11 +339,11 @@ module _ (l : Line) (F : Facts l) (W : ℕ) (wide : (j : ℕ) → IsLevel l.char
         elim (option_cases (first (suc l.chart.levels) (not_at_rest l x))) [
           | inl j ↦
               let f = first-is (suc l.chart.levels) (not_at_rest l x) j.0 j.1 in
-              let u = and_parts (leb 1 j.0) (not (at_rest l j.0 x)) f.holds in
-              let v : IsLevel l.chart j.0 = (leb-true 1 j.0 u.0, omega (arith, f.within)) in
+              let u = and_parts _ _ f.holds in
+              let v : IsLevel l.chart j.0 = (leb-true _ _ u.0, omega (arith, f.within)) in
               let m : marked l (high l) x ≡ true = (dist-is (high_automaton l) (size l (high l)) 0 x q).1 in
               let h = rest_some l F x r j.0 v (marked-at l (high l) x m (interface j.0) (omega (arith, v)) (high-interface l j.0 v)) in
-              inr (at j.0 v (not-true (at_rest l j.0 x) u.1) (g ∙ ap (λ (o : Option ℕ). homeward l o x) j.1) h.0 h.1)
+              inr (at j.0 v (not-true _ u.1) (g ∙ ap (λ (o : Option ℕ). homeward l o x) j.1) h.0 h.1)
           | inr n ↦ inl (g ∙ ap (λ (o : Option ℕ). homeward l o x) n)
         ]
       where

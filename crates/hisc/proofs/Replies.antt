@@ -79,14 +79,14 @@ occurs-passing (suc n) p e =
 
     at_n : cond (ltb n n && p n) 1 0 + occurs n (cond (p n) (n ∷ []) []) ≡ cond (ltb n (suc n) && p n) 1 0
     at_n =
-        ap₂ (λ (a b : ℕ). a + b) (ap (λ (b : Bool). cond (b && p n) 1 0) (le-ltb n n (omega arith))) (one n (p n) ∙ ap (λ (b : Bool). cond (p n && b) 1 0) (eq-eqb n n refl)) ∙
+        ap₂ (λ (a b : ℕ). a + b) (ap (λ (b : Bool). cond (b && p n) 1 0) (le-ltb n n (omega arith))) (one n (p n) ∙ ap (λ (b : Bool). cond (p n && b) 1 0) (eq-eqb _ _ refl)) ∙
         both (p n) ∙ sym (ap (λ (b : Bool). cond (b && p n) 1 0) (lt-ltb n (suc n) (omega arith)))
 
     last : (e ≡ n) ⊎ (e ≡ n → ⊥) → cond (ltb e n && p e) 1 0 + occurs e (cond (p n) (n ∷ []) []) ≡ cond (ltb e (suc n) && p e) 1 0
     last (inl z) = subst (λ (m : ℕ). cond (ltb m n && p m) 1 0 + occurs m (cond (p n) (n ∷ []) []) ≡ cond (ltb m (suc n) && p m) 1 0) (sym z) at_n
     last (inr d) =
-        let rest : occurs e (cond (p n) (n ∷ []) []) ≡ 0 = one e (p n) ∙ ap (λ (b : Bool). cond (p n && b) 1 0) (ne_eqb e n d) ∙ none_more (p n) in
-        let same : ltb e n ≡ ltb e (suc n) = bool_iff (ltb e n) (ltb e (suc n)) (λ t. lt-ltb e (suc n) (omega (arith, ltb-true e n t))) (λ t. lt-ltb e n (omega (arith, ltb-true e (suc n) t, d))) in
+        let rest : occurs e (cond (p n) (n ∷ []) []) ≡ 0 = one e (p n) ∙ ap (λ (b : Bool). cond (p n && b) 1 0) (ne_eqb _ _ d) ∙ none_more (p n) in
+        let same : ltb e n ≡ ltb e (suc n) = bool_iff (ltb e n) (ltb e (suc n)) (λ t. lt-ltb e (suc n) (omega (arith, ltb-true _ _ t))) (λ t. lt-ltb e n (omega (arith, ltb-true _ _ t, d))) in
         let here : ◌≡◌ {A = ℕ} (cond (ltb e n && p e) 1 0) (cond (ltb e (suc n) && p e) 1 0) = ap (λ (b : Bool). cond (b && p e) 1 0) same in
         omega (arith, rest, here)
 
@@ -123,8 +123,8 @@ counted-states l c x w h (Restart ∷ q) = counted-states l c (initial l) [] ref
 in-flat : (l : Line) (x : State) (e : ℕ) → (ltb e l.chart.events && possible l (flat l) x e) ≡ possible l (flat l) x e
 in-flat l x e =
     bool_iff (ltb e l.chart.events && possible l (flat l) x e) (possible l (flat l) x e)
-    (λ t. (and_parts (ltb e l.chart.events) (possible l (flat l) x e) t).1)
-    (λ t. and_from (ltb e l.chart.events) (possible l (flat l) x e) (possible-alphabet l (flat l) x e t) t)
+    (λ t. (and_parts _ _ t).1)
+    (λ t. and_from _ _ (possible-alphabet l (flat l) x e t) t)
 
 pub calls-agree : AllCallsAgree
 calls-agree l = record {

@@ -71,8 +71,8 @@ module _ (l : Line) where
         ready j v =
             let u = first-none (suc l.chart.levels) (not_at_rest l x) n j (omega (arith, v)) in
             elim (and_cases (leb 1 j) (not (at_rest l j x)) u) [
-              | inl a ↦ never (le-leb 1 j v.0) a
-              | inr b ↦ and_parts ((l.component (plant j)).marked (x (plant j))) ((l.component (supervisor j)).marked (x (supervisor j))) (not-false (at_rest l j x) b)
+              | inl a ↦ never (le-leb _ _ v.0) a
+              | inr b ↦ and_parts _ _ (not-false _ b)
             ]
 
     pub home_marked : guide l x ≡ Home → marked l (flat l) x ≡ true
@@ -100,11 +100,10 @@ module _ (l : Line) where
         let q : high_distance l x ≡ some 0 = dist-goal (high_automaton l) (size l (high l)) x (size-pos l (high l) x (λ c lt i. v c lt)) hi in
         let n : first (suc l.chart.levels) (not_at_rest l x) ≡ none = elim (first-or (suc l.chart.levels) (not_at_rest l x)) [
           | inl k ↦
-              let u = and_parts (leb 1 k.0) (not (at_rest l k.0 x)) k.2.holds in
-              let v : IsLevel l.chart k.0 = (leb-true 1 k.0 u.0, omega (arith, k.2.within)) in
-              never (and_from ((l.component (plant k.0)).marked (x (plant k.0))) ((l.component (supervisor k.0)).marked (x (supervisor k.0)))
-              (marked-at l (flat l) x m (plant k.0) (omega (arith, v)) refl) (marked-at l (flat l) x m (supervisor k.0) (omega (arith, v)) refl))
-              (not-true (at_rest l k.0 x) u.1)
+              let u = and_parts _ _ k.2.holds in
+              let v : IsLevel l.chart k.0 = (leb-true _ _ u.0, omega (arith, k.2.within)) in
+              never (and_from _ _ (marked-at l (flat l) x m (plant k.0) (omega (arith, v)) refl) (marked-at l (flat l) x m (supervisor k.0) (omega (arith, v)) refl))
+              (not-true _ u.1)
           | inr f ↦ f.0
         ] in
         ap (λ (o : Option ℕ). by_distance l o x) q ∙ ap (λ (o : Option ℕ). homeward l o x) n
@@ -186,7 +185,7 @@ module _ (l : Line) (M : WellMade l) (x : State) (v : InRange l x) where
   zero-possible j a q = (dist-is (to_answer l j a) (size l (low l j)) 0 x q).1
 
   answer-below : (j e : ℕ) → answer_enabled l j x e ≡ true → e < l.chart.events
-  answer-below j e t = low_below l j e (possible-alphabet l (low l j) x e (and_parts (possible l (low l j) x e) (is_answer (l.chart.kind e)) t).0)
+  answer-below j e t = low_below l j e (possible-alphabet l (low l j) x e (and_parts _ _ t).0)
 
   -- the wanted answer, and the others of its level
   answer-names : (j a e : ℕ) → WantedAnswer l x j a → answer_or l j a x (low_distance l j (to_answer l j a) x) ≡ Event e → Names l x e
@@ -220,13 +219,13 @@ module _ (l : Line) (M : WellMade l) (x : State) (v : InRange l x) where
   unrested-is : (j : ℕ) → first (suc l.chart.levels) (not_at_rest l x) ≡ some j → LowestUnrested l x j
   unrested-is j q =
       let f = first-is (suc l.chart.levels) (not_at_rest l x) j q in
-      let u = and_parts (leb 1 j) (not (at_rest l j x)) f.holds in
+      let u = and_parts _ _ f.holds in
       record {
-        level = (leb-true 1 j u.0, omega (arith, f.within));
-        unrested = not-true (at_rest l j x) u.1;
+        level = (leb-true _ _ u.0, omega (arith, f.within));
+        unrested = not-true _ u.1;
         lowest = λ i lv lt. elim (and_cases (leb 1 i) (not (at_rest l i x)) (f.before i lt)) [
-          | inl a ↦ never (le-leb 1 i lv.0) a
-          | inr b ↦ not-false (at_rest l i x) b
+          | inl a ↦ never (le-leb _ _ lv.0) a
+          | inr b ↦ not-false _ b
         ];
       }
 
@@ -234,13 +233,13 @@ module _ (l : Line) (M : WellMade l) (x : State) (v : InRange l x) where
   is-unrested j u =
       is-first (suc l.chart.levels) (not_at_rest l x) j (record {
         within = omega (arith, u.level);
-        holds = and_from (leb 1 j) (not (at_rest l j x)) (le-leb 1 j u.level.0) (not_from_false (at_rest l j x) u.unrested);
+        holds = and_from _ _ (le-leb _ _ u.level.0) (not_from_false _ u.unrested);
         before = λ i lt. before i lt (cases_Bool (leb 1 i));
       })
     where
       before : (i : ℕ) → i < j → (leb 1 i ≡ true) ⊎ (leb 1 i ≡ false) → not_at_rest l x i ≡ false
-      before i lt (inl a) = and_right (leb 1 i) (not (at_rest l i x)) (not_from_true (at_rest l i x) (u.lowest i (leb-true 1 i a, omega (arith, u.level)) lt))
-      before i lt (inr b) = and_left (leb 1 i) (not (at_rest l i x)) b
+      before i lt (inl a) = and_right _ _ (not_from_true _ (u.lowest i (leb-true _ _ a, omega (arith, u.level)) lt))
+      before i lt (inr b) = and_left _ _ b
 
   -- a named event is by the rule
   pub event_named : (e : ℕ) → guide l x ≡ Event e → Names l x e

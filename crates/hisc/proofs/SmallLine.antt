@@ -27,9 +27,9 @@ use Rattle.hisc.proofs.Decide.{every, test, right, all_right, alphabet-witness, 
 every-member : (p : ℕ → Bool) (ms : List ℕ) → every p ms ≡ true → (n : ℕ) → member ms n ≡ true → p n ≡ true
 every-member p [] h n t = never t refl
 every-member p (m ∷ ms) h n t =
-    let r = and_parts (p m) (every p ms) h in
+    let r = and_parts _ _ h in
     elim (or_cases (eqb m n) (member ms n) t) [
-      | inl e ↦ subst (λ (i : ℕ). p i ≡ true) (eqb-true m n e) r.0
+      | inl e ↦ subst (λ (i : ℕ). p i ≡ true) (eqb-true _ _ e) r.0
       | inr u ↦ every-member p ms r.1 n u
     ]
 
@@ -52,7 +52,7 @@ not-foreign (m ∷ ms) s e = go (eqb m.from s && eqb m.event e) (not-foreign ms 
 next-within : (n : ℕ) (ms : List Move) → every (within n) ms ≡ true → (s e t : ℕ) → next_by ms s e ≡ To t → t < n
 next-within n [] h s e t q = absurd cc
 next-within n (m ∷ ms) h s e t q =
-    let r = and_parts (within n m) (every (within n) ms) h in
+    let r = and_parts _ _ h in
     go (eqb m.from s && eqb m.event e) r.0 (next-within n ms r.1 s e t) q
   where
     go : (b : Bool) → within n m ≡ true → (next_by ms s e ≡ To t → t < n) → cond b (To m.to) (next_by ms s e) ≡ To t → t < n
@@ -62,8 +62,8 @@ next-within n (m ∷ ms) h s e t q =
 next-beyond : (n : ℕ) (ms : List Move) → every (within n) ms ≡ true → (s e : ℕ) → n ≤ s → next_by ms s e ≡ Forbidden
 next-beyond n [] h s e ge = refl
 next-beyond n (m ∷ ms) h s e ge =
-    let r = and_parts (within n m) (every (within n) ms) h in
-    let lt : m.from < n = ltb-true m.from n (and_parts (ltb m.from n) (ltb m.to n) r.0).0 in
+    let r = and_parts _ _ h in
+    let lt : m.from < n = ltb-true _ _ (and_parts _ _ r.0).0 in
     ap (λ (b : Bool). cond (b && eqb m.event e) (To m.to) (next_by ms s e)) (ne_eqb m.from s (omega arith)) ∙ next-beyond n ms r.1 s e ge
 
 abbrev sound : ℕ → List ℕ → List ℕ → List Move → Bool
@@ -71,16 +71,16 @@ sound n known marks moves = (leb 1 n && leb n 4096) && (every (λ e. ltb e 64) k
 
 formed : (n : ℕ) (known marks : List ℕ) (moves : List Move) → sound n known marks moves ≡ true → WellFormed (generator n known marks moves)
 formed n known marks moves t =
-    let p = and_parts (leb 1 n && leb n 4096) (every (λ e. ltb e 64) known && (every (λ s. ltb s n) marks && every (within n) moves)) t in
-    let c = and_parts (leb 1 n) (leb n 4096) p.0 in
-    let q = and_parts (every (λ e. ltb e 64) known) (every (λ s. ltb s n) marks && every (within n) moves) p.1 in
-    let r = and_parts (every (λ s. ltb s n) marks) (every (within n) moves) q.1 in
+    let p = and_parts _ _ t in
+    let c = and_parts _ _ p.0 in
+    let q = and_parts _ _ p.1 in
+    let r = and_parts _ _ q.1 in
     record {
-      some = leb-true 1 n c.0;
-      few = leb-true n 4096 c.1;
-      begins = omega (arith, leb-true 1 n c.0);
-      events = λ e k. ltb-true e 64 (every-member (λ e. ltb e 64) known q.0 e k);
-      marks = λ s m. ltb-true s n (every-member (λ s. ltb s n) marks r.0 s m);
+      some = leb-true _ _ c.0;
+      few = leb-true _ _ c.1;
+      begins = omega (arith, leb-true _ _ c.0);
+      events = λ e k. ltb-true _ _ (every-member (λ e. ltb e 64) known q.0 e k);
+      marks = λ s m. ltb-true _ _ (every-member (λ s. ltb s n) marks r.0 s m);
       foreign = λ s e u. ap (λ (b : Bool). cond b (next_by moves s e) Foreign) u;
       known = λ s e f. false_from_ne_true (member known e) (λ k.
           never (ap is_foreign f) (ap (λ (b : Bool). is_foreign (cond b (next_by moves s e) Foreign)) k ∙ not-foreign moves s e));
@@ -99,23 +99,22 @@ sound_chart k =
 
 one-level : (k : EventChart) → sound_chart k ≡ true → WellCharted k
 one-level k t =
-    let p = and_parts ((eqb k.levels 1 && (leb 1 k.events && leb k.events 64)) && (owns_request k 1 && owns_answer k 1))
-    (all k.events (λ e. cond (is_high (k.kind e)) (eqb (k.owner e) 0) (eqb (k.owner e) 1))) t in
-    let q = and_parts (eqb k.levels 1 && (leb 1 k.events && leb k.events 64)) (owns_request k 1 && owns_answer k 1) p.0 in
-    let r = and_parts (eqb k.levels 1) (leb 1 k.events && leb k.events 64) q.0 in
-    let b = and_parts (leb 1 k.events) (leb k.events 64) r.1 in
-    let o = and_parts (owns_request k 1) (owns_answer k 1) q.1 in
-    let n : k.levels ≡ 1 = eqb-true k.levels 1 r.0 in
+    let p = and_parts _ _ t in
+    let q = and_parts _ _ p.0 in
+    let r = and_parts _ _ q.0 in
+    let b = and_parts _ _ r.1 in
+    let o = and_parts _ _ q.1 in
+    let n : k.levels ≡ 1 = eqb-true _ _ r.0 in
     let owned : (e : ℕ) → e < k.events → cond (is_high (k.kind e)) (eqb (k.owner e) 0) (eqb (k.owner e) 1) ≡ true =
     all-at k.events (λ e. cond (is_high (k.kind e)) (eqb (k.owner e) 0) (eqb (k.owner e) 1)) p.1 in
     record {
       some_level = omega arith;
       few_levels = omega arith;
-      some_event = leb-true 1 k.events b.0;
-      few_events = leb-true k.events 64 b.1;
-      high_owner = λ e lt h. eqb-true (k.owner e) 0 (subst (λ (b : Bool). cond b (eqb (k.owner e) 0) (eqb (k.owner e) 1) ≡ true) h (owned e lt));
+      some_event = leb-true _ _ b.0;
+      few_events = leb-true _ _ b.1;
+      high_owner = λ e lt h. eqb-true _ _ (subst (λ (b : Bool). cond b (eqb (k.owner e) 0) (eqb (k.owner e) 1) ≡ true) h (owned e lt));
       low_owner = λ e lt h.
-          let z = eqb-true (k.owner e) 1 (subst (λ (b : Bool). cond b (eqb (k.owner e) 0) (eqb (k.owner e) 1) ≡ true) h (owned e lt)) in
+          let z = eqb-true _ _ (subst (λ (b : Bool). cond b (eqb (k.owner e) 0) (eqb (k.owner e) 1) ≡ true) h (owned e lt)) in
           (omega arith, omega arith);
       requests = λ j v. let z : 1 ≡ j = omega (arith, v, n) in subst (λ (i : ℕ). owns_request k i ≡ true) z o.0;
       answers = λ j v. let z : 1 ≡ j = omega (arith, v, n) in subst (λ (i : ℕ). owns_answer k i ≡ true) z o.1;
@@ -160,13 +159,13 @@ sized l = eqb l.chart.levels 1 && (leb (size l (low l 1)) 4096 && leb (size l (h
 
 sizes : (l : Line) → sized l ≡ true → SizesFit l 5
 sizes l t =
-    let p = and_parts (eqb l.chart.levels 1) (leb (size l (low l 1)) 4096 && leb (size l (high l)) 4096) t in
-    let q = and_parts (leb (size l (low l 1)) 4096) (leb (size l (high l)) 4096) p.1 in
-    let n : l.chart.levels ≡ 1 = eqb-true l.chart.levels 1 p.0 in
+    let p = and_parts _ _ t in
+    let q = and_parts _ _ p.1 in
+    let n : l.chart.levels ≡ 1 = eqb-true _ _ p.0 in
     record {
       complete = omega arith;
-      lows = λ j v. let z : 1 ≡ j = omega (arith, v, n) in subst (λ (i : ℕ). size l (low l i) ≤ 4096) z (leb-true (size l (low l 1)) 4096 q.0);
-      top = leb-true (size l (high l)) 4096 q.1;
+      lows = λ j v. let z : 1 ≡ j = omega (arith, v, n) in subst (λ (i : ℕ). size l (low l i) ≤ 4096) z (leb-true _ _ q.0);
+      top = leb-true _ _ q.1;
     }
 
 small-tests : every (test small_line small-made high_words low_words alone_words) (tests small_line) ≡ true
