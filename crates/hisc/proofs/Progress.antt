@@ -303,8 +303,8 @@ module _ (l : Line) (F : Facts l) (W : ℕ) (wide : (j : ℕ) → IsLevel l.char
         else-any : low_distance l (l.chart.owner e) (to_answer l (l.chart.owner e) e) x ≡ none → (n : ℕ) → low_distance l (l.chart.owner e) (to_any_answer l (l.chart.owner e)) x ≡ some n → (f : ℕ) × (by_kind l Answer e x ≡ Event f) × Named x f
         else-any nw zero c =
             let g : any l.chart.events (answer_enabled l (l.chart.owner e) x) ≡ true = (dist-is (to_any_answer l (l.chart.owner e)) (size l (low l (l.chart.owner e))) 0 x (unfold low_distance in c)).1 in
-            let i = finds.any_some l.chart.events (answer_enabled l (l.chart.owner e) x) g in
-            let b = first_some l.chart.events (answer_enabled l (l.chart.owner e) x) i.0 i.1 i.2 in (
+            let i = finds.any_some _ _ g in
+            let b = first_some _ _ i.0 i.1 i.2 in (
               b.0,
               ap (answer_or l (l.chart.owner e) e x) nw ∙
                   ap (λ (o : Option ℕ). toward (to_any_answer l (l.chart.owner e)) o x (named (first l.chart.events (answer_enabled l (l.chart.owner e) x)))) c ∙ ap named b.1,

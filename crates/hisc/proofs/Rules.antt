@@ -293,10 +293,10 @@ module _ (l : Line) (M : WellMade l) (x : State) (v : InRange l x) where
       guide-answer j a w ∙ ap (answer_or l j a x) q ∙ ap named (is-lowest l (over-answer l M.formed j a) x d e q s)
   named_event e (other_answer j a w f s) =
       let z : low_distance l j (to_any_answer l j) x ≡ some 0 = dist-goal (to_any_answer l j) (size l (low l j)) x (size-pos l (low l j) x (fit (low l j)))
-      (any-from l.chart.events (answer_enabled l j x) e (answer-below j e s.enabled) s.enabled) in
+      (any-from _ _ e (answer-below j e s.enabled) s.enabled) in
       guide-answer j a w ∙ ap (answer_or l j a x) (word_none j a f) ∙
       ap (λ (o : Option ℕ). toward (to_any_answer l j) o x (named (first l.chart.events (answer_enabled l j x)))) z ∙
-      ap named (is-first l.chart.events (answer_enabled l j x) e (record { within = answer-below j e s.enabled; holds = s.enabled; before = s.lowest }))
+      ap named (is-first _ _ e (record { within = answer-below j e s.enabled; holds = s.enabled; before = s.lowest }))
   named_event e (toward_other j a d w f n s) =
       let q : low_distance l j (to_any_answer l j) x ≡ some (suc d) = near-distance l (over_any l M.formed j) x (suc d) (fit (low l j)) n in
       guide-answer j a w ∙ ap (answer_or l j a x) (word_none j a f) ∙

@@ -106,7 +106,7 @@ one-level k t =
     let o = and_parts _ _ q.1 in
     let n : k.levels ≡ 1 = eqb-true _ _ r.0 in
     let owned : (e : ℕ) → e < k.events → cond (is_high (k.kind e)) (eqb (k.owner e) 0) (eqb (k.owner e) 1) ≡ true =
-    all-at k.events (λ e. cond (is_high (k.kind e)) (eqb (k.owner e) 0) (eqb (k.owner e) 1)) p.1 in
+    all-at _ _ p.1 in
     record {
       some_level = omega arith;
       few_levels = omega arith;
