@@ -92,18 +92,19 @@ formed n known marks moves t =
     }
 
 -- a chart of one level, by computation
-abbrev sound_chart : EventChart → Bool
+abbrev pub sound_chart : EventChart → Bool
 sound_chart k =
     ((eqb k.levels 1 && (leb 1 k.events && leb k.events 64)) && (owns_request k 1 && owns_answer k 1)) &&
     all k.events (λ e. cond (is_high (k.kind e)) (eqb (k.owner e) 0) (eqb (k.owner e) 1))
 
-one-level : (k : EventChart) → sound_chart k ≡ true → WellCharted k
+pub one-level : (k : EventChart) → sound_chart k ≡ true → WellCharted k
 one-level k t =
-    let p = and_parts _ _ t in
-    let q = and_parts _ _ p.0 in
-    let r = and_parts _ _ q.0 in
-    let b = and_parts _ _ r.1 in
-    let o = and_parts _ _ q.1 in
+    let p = and_parts ((eqb k.levels 1 && (leb 1 k.events && leb k.events 64)) && (owns_request k 1 && owns_answer k 1))
+    (all k.events (λ e. cond (is_high (k.kind e)) (eqb (k.owner e) 0) (eqb (k.owner e) 1))) t in
+    let q = and_parts (eqb k.levels 1 && (leb 1 k.events && leb k.events 64)) (owns_request k 1 && owns_answer k 1) p.0 in
+    let r = and_parts (eqb k.levels 1) (leb 1 k.events && leb k.events 64) q.0 in
+    let b = and_parts (leb 1 k.events) (leb k.events 64) r.1 in
+    let o = and_parts (owns_request k 1) (owns_answer k 1) q.1 in
     let n : k.levels ≡ 1 = eqb-true _ _ r.0 in
     let owned : (e : ℕ) → e < k.events → cond (is_high (k.kind e)) (eqb (k.owner e) 0) (eqb (k.owner e) 1) ≡ true =
     all-at _ _ p.1 in
@@ -126,8 +127,8 @@ charted = one-level small_chart refl
 idle-formed : (known : List ℕ) → sound 1 known (0 ∷ []) (loops known) ≡ true → WellFormed (idle known)
 idle-formed known t = formed 1 known (0 ∷ []) (loops known) t
 
-made : (top bottom between : Gen) → WellFormed top → WellFormed bottom → WellFormed between → WellMade (line_with top bottom between)
-made top bottom between a b c =
+made : {top bottom between : Gen} → WellFormed top → WellFormed bottom → WellFormed between → WellMade (line_with top bottom between)
+made {top = top} {bottom = bottom} {between = between} a b c =
     well-made small_chart (top ∷ idle (0 ∷ 1 ∷ 2 ∷ []) ∷ bottom ∷ idle (1 ∷ 2 ∷ 3 ∷ []) ∷ between ∷ []) charted
     (a, (idle-formed (0 ∷ 1 ∷ 2 ∷ []) refl, (b, (idle-formed (1 ∷ 2 ∷ 3 ∷ []) refl, (c, tt))))) refl
 
@@ -141,26 +142,26 @@ between-formed : WellFormed small_interface
 between-formed = formed 2 (1 ∷ 2 ∷ []) (0 ∷ []) (move 0 1 1 ∷ move 1 2 0 ∷ []) refl
 
 small-made : WellMade small_line
-small-made = made small_high_plant small_plant small_interface top-formed plant-formed between-formed
+small-made = made top-formed plant-formed between-formed
 
 -- words to every reached state of the walks
-abbrev high_words : List (List ℕ)
+abbrev pub high_words : List (List ℕ)
 high_words = [] ∷ (0 ∷ []) ∷ (0 ∷ 1 ∷ []) ∷ []
 
-abbrev low_words : ℕ → List (List ℕ)
+abbrev pub low_words : ℕ → List (List ℕ)
 low_words j = [] ∷ (1 ∷ []) ∷ (1 ∷ 3 ∷ []) ∷ []
 
-abbrev alone_words : ℕ → List (List ℕ)
+abbrev pub alone_words : ℕ → List (List ℕ)
 alone_words j = [] ∷ (1 ∷ []) ∷ []
 
 -- a line of one level whose walks fit, over a bank of five components
-abbrev sized : Line → Bool
+abbrev pub sized : Line → Bool
 sized l = eqb l.chart.levels 1 && (leb (size l (low l 1)) 4096 && leb (size l (high l)) 4096)
 
-sizes : (l : Line) → sized l ≡ true → SizesFit l 5
+pub sizes : (l : Line) → sized l ≡ true → SizesFit l 5
 sizes l t =
-    let p = and_parts _ _ t in
-    let q = and_parts _ _ p.1 in
+    let p = and_parts (eqb l.chart.levels 1) (leb (size l (low l 1)) 4096 && leb (size l (high l)) 4096) t in
+    let q = and_parts (leb (size l (low l 1)) 4096) (leb (size l (high l)) 4096) p.1 in
     let n : l.chart.levels ≡ 1 = eqb-true _ _ p.0 in
     record {
       complete = omega arith;
@@ -241,31 +242,31 @@ choice-passes = record {
 }
 
 -- the lines that are refused
-refused-with : (l : Line) (f : Fault) → WellMade l → FirstFault l f → sized l ≡ true → enough l (cells_of 12) ≡ true → RefusedWith l f
-refused-with l f m q s c = record {
+refused-with : {l : Line} {f : Fault} → WellMade l → FirstFault l f → sized l ≡ true → enough l (cells_of 12) ≡ true → RefusedWith l f
+refused-with {l = l} {f = f} m q s c = record {
   made = m;
   lacks = λ p. all-not l (tests l) f ((tests-points l).no_more p) q;
   answer = faulty (sizes l s) c q;
 }
 
 -- the tests of point 1, and those of the level after point 5 and point 6
-abbrev alphabets : List Test
+abbrev pub alphabets : List Test
 alphabets = alphabet_known 0 ∷ alphabet_known 1 ∷ alphabet_known 2 ∷ alphabet_known 3 ∷ alphabet_known 4 ∷ []
 
-abbrev high_tests : List Test
+abbrev pub high_tests : List Test
 high_tests = answers_accepted ∷ high_nonblocking ∷ high_controllable ∷ []
 
-abbrev after_five : List Test
+abbrev pub after_five : List Test
 after_five = rest_reachable 1 ∷ low_nonblocking 1 ∷ low_controllable 1 ∷ high_tests
 
-abbrev to_six : List Test
+abbrev pub to_six : List Test
 to_six = command_pair 1 ∷ requests_accepted 1 ∷ answers_reachable 1 ∷ []
 
-abbrev after_six : List Test
+abbrev pub after_six : List Test
 after_six = low_nonblocking 1 ∷ low_controllable 1 ∷ high_tests
 
 start-made : WellMade unmarked_start_line
-start-made = made small_high_plant small_plant (generator 2 (1 ∷ 2 ∷ []) (1 ∷ []) (move 0 1 1 ∷ move 1 2 0 ∷ [])) top-formed plant-formed (formed 2 (1 ∷ 2 ∷ []) (1 ∷ []) (move 0 1 1 ∷ move 1 2 0 ∷ []) refl)
+start-made = made top-formed plant-formed (formed 2 (1 ∷ 2 ∷ []) (1 ∷ []) (move 0 1 1 ∷ move 1 2 0 ∷ []) refl)
 
 start-fault : FirstFault unmarked_start_line (Point point.CommandPair 1 0 None)
 unfolding possible marked size code
@@ -274,23 +275,19 @@ start-fault =
     (requests_accepted 1 ∷ answers_reachable 1 ∷ after_five) 0 None refl (start-witness unmarked_start_line start-made high_words low_words alone_words 1 refl)
 
 lost-made : WellMade lost_answer_line
-lost-made =
-    made small_high_plant (generator 3 (1 ∷ 2 ∷ 3 ∷ []) (0 ∷ []) (move 0 1 1 ∷ move 2 2 0 ∷ [])) small_interface top-formed
-    (formed 3 (1 ∷ 2 ∷ 3 ∷ []) (0 ∷ []) (move 0 1 1 ∷ move 2 2 0 ∷ []) refl) between-formed
+lost-made = made top-formed (formed 3 (1 ∷ 2 ∷ 3 ∷ []) (0 ∷ []) (move 0 1 1 ∷ move 2 2 0 ∷ []) refl) between-formed
 
-lost-words : ℕ → List (List ℕ)
-lost-words j = [] ∷ (1 ∷ []) ∷ []
+abbrev pub lost_words : ℕ → List (List ℕ)
+lost_words j = [] ∷ (1 ∷ []) ∷ []
 
 lost-fault : FirstFault lost_answer_line (Point point.AnswersReachable 1 4 (Some 2))
-unfolding possible marked size code lost-words
+unfolding possible marked size code
 lost-fault =
-    first-failing lost_answer_line lost-made high_words lost-words alone_words (alphabets ++ (command_pair 1 ∷ requests_accepted 1 ∷ [])) (answers_reachable 1) after_five 4 (Some 2) refl
-    (answer-witness lost_answer_line lost-made high_words lost-words alone_words 1 4 2 [] 1 refl refl refl refl refl refl refl refl)
+    first-failing lost_answer_line lost-made high_words lost_words alone_words (alphabets ++ (command_pair 1 ∷ requests_accepted 1 ∷ [])) (answers_reachable 1) after_five 4 (Some 2) refl
+    (answer-witness lost_answer_line lost-made high_words lost_words alone_words 1 4 2 [] 1 refl refl refl refl refl refl refl refl)
 
 unmarked-made : WellMade unmarked_plant_line
-unmarked-made =
-    made small_high_plant (generator 3 (1 ∷ 2 ∷ 3 ∷ []) [] (move 0 1 1 ∷ move 1 3 2 ∷ move 2 2 0 ∷ [])) small_interface top-formed
-    (formed 3 (1 ∷ 2 ∷ 3 ∷ []) [] (move 0 1 1 ∷ move 1 3 2 ∷ move 2 2 0 ∷ []) refl) between-formed
+unmarked-made = made top-formed (formed 3 (1 ∷ 2 ∷ 3 ∷ []) [] (move 0 1 1 ∷ move 1 3 2 ∷ move 2 2 0 ∷ []) refl) between-formed
 
 unmarked-fault : FirstFault unmarked_plant_line (Point point.RestReachable 1 0 None)
 unfolding possible marked size code
@@ -299,9 +296,7 @@ unmarked-fault =
     (rest-witness unmarked_plant_line unmarked-made high_words low_words alone_words 1 0 [] (omega arith, omega arith) refl refl refl refl refl)
 
 rest-made : WellMade rest_by_request_line
-rest-made =
-    made small_high_plant (generator 6 (1 ∷ 2 ∷ 3 ∷ []) (0 ∷ []) (move 0 1 1 ∷ move 1 3 2 ∷ move 2 2 3 ∷ move 3 1 4 ∷ move 4 3 5 ∷ move 5 2 0 ∷ [])) small_interface top-formed
-    (formed 6 (1 ∷ 2 ∷ 3 ∷ []) (0 ∷ []) (move 0 1 1 ∷ move 1 3 2 ∷ move 2 2 3 ∷ move 3 1 4 ∷ move 4 3 5 ∷ move 5 2 0 ∷ []) refl) between-formed
+rest-made = made top-formed (formed 6 (1 ∷ 2 ∷ 3 ∷ []) (0 ∷ []) (move 0 1 1 ∷ move 1 3 2 ∷ move 2 2 3 ∷ move 3 1 4 ∷ move 4 3 5 ∷ move 5 2 0 ∷ []) refl) between-formed
 
 rest-words : ℕ → List (List ℕ)
 rest-words j = [] ∷ (1 ∷ []) ∷ (1 ∷ 3 ∷ []) ∷ (1 ∷ 3 ∷ 2 ∷ []) ∷ (1 ∷ 3 ∷ 2 ∷ 1 ∷ []) ∷ (1 ∷ 3 ∷ 2 ∷ 1 ∷ 3 ∷ []) ∷ []
@@ -317,7 +312,7 @@ unfolding possible marked size code rest-words
 rest-nonblocking = refl
 
 wrong-made : WellMade wrong_answer_line
-wrong-made = made small_high_plant small_plant (generator 2 (1 ∷ 3 ∷ []) (0 ∷ []) (move 0 1 1 ∷ move 1 3 0 ∷ [])) top-formed plant-formed (formed 2 (1 ∷ 3 ∷ []) (0 ∷ []) (move 0 1 1 ∷ move 1 3 0 ∷ []) refl)
+wrong-made = made top-formed plant-formed (formed 2 (1 ∷ 3 ∷ []) (0 ∷ []) (move 0 1 1 ∷ move 1 3 0 ∷ []) refl)
 
 wrong-fault : FirstFault wrong_answer_line (Alphabet 1 4 2)
 wrong-fault =
@@ -325,9 +320,7 @@ wrong-fault =
     (to_six ++ after_five) 0 (Some 2) refl (alphabet-witness wrong_answer_line wrong-made high_words low_words alone_words 4 2 refl refl)
 
 stray-made : WellMade stray_event_line
-stray-made =
-    made (generator 3 (0 ∷ 1 ∷ 2 ∷ 63 ∷ []) (0 ∷ []) (move 0 0 1 ∷ move 1 1 2 ∷ move 2 2 0 ∷ [])) small_plant small_interface
-    (formed 3 (0 ∷ 1 ∷ 2 ∷ 63 ∷ []) (0 ∷ []) (move 0 0 1 ∷ move 1 1 2 ∷ move 2 2 0 ∷ []) refl) plant-formed between-formed
+stray-made = made (formed 3 (0 ∷ 1 ∷ 2 ∷ 63 ∷ []) (0 ∷ []) (move 0 0 1 ∷ move 1 1 2 ∷ move 2 2 0 ∷ []) refl) plant-formed between-formed
 
 stray-fault : FirstFault stray_event_line (Alphabet 0 0 63)
 stray-fault =
@@ -336,20 +329,18 @@ stray-fault =
     (alphabet-witness stray_event_line stray-made high_words low_words alone_words 0 63 refl refl)
 
 large-made : WellMade too_large_line
-large-made =
-    made small_high_plant (generator 4096 (1 ∷ 2 ∷ 3 ∷ []) (0 ∷ []) (move 0 1 1 ∷ move 1 3 2 ∷ move 2 2 0 ∷ [])) small_interface top-formed
-    (formed 4096 (1 ∷ 2 ∷ 3 ∷ []) (0 ∷ []) (move 0 1 1 ∷ move 1 3 2 ∷ move 2 2 0 ∷ []) refl) between-formed
+large-made = made top-formed (formed 4096 (1 ∷ 2 ∷ 3 ∷ []) (0 ∷ []) (move 0 1 1 ∷ move 1 3 2 ∷ move 2 2 0 ∷ []) refl) between-formed
 
 pub lines-refused : LinesRefused
 unfolding size largest_low rest-words
 lines-refused = record {
-  unmarked_start = refused-with unmarked_start_line (Point point.CommandPair 1 0 None) start-made start-fault refl refl;
-  lost_answer = refused-with lost_answer_line (Point point.AnswersReachable 1 4 (Some 2)) lost-made lost-fault refl refl;
-  unmarked_plant = refused-with unmarked_plant_line (Point point.RestReachable 1 0 None) unmarked-made unmarked-fault refl refl;
-  rest_by_request = refused-with rest_by_request_line (Point point.RestReachable 1 3 None) rest-made rest-fault refl refl;
+  unmarked_start = refused-with start-made start-fault refl refl;
+  lost_answer = refused-with lost-made lost-fault refl refl;
+  unmarked_plant = refused-with unmarked-made unmarked-fault refl refl;
+  rest_by_request = refused-with rest-made rest-fault refl refl;
   rest_by_request_nonblocking = right rest_by_request_line rest-made high_words rest-words alone_words (low_nonblocking 1) rest-nonblocking;
-  wrong_answer = refused-with wrong_answer_line (Alphabet 1 4 2) wrong-made wrong-fault refl refl;
-  stray_event = refused-with stray_event_line (Alphabet 0 0 63) stray-made stray-fault refl refl;
+  wrong_answer = refused-with wrong-made wrong-fault refl refl;
+  stray_event = refused-with stray-made stray-fault refl refl;
   too_large = large-made;
   too_large_answer = λ cells. oversize refl (low_walk (omega arith, omega arith) (λ i a b. absurd (omega arith)) (lit< tt));
 }
