@@ -27,6 +27,11 @@ D-below : (l : Line) (x : State) (D : ℕ) → high_distance l x ≡ some D → 
 unfolding high_distance
 D-below l x D q = (dist-is (high_automaton l) (size l (high l)) D x q).0
 
+-- away from home the guide goes by the kind of the wanted event
+pub guide-wanted : (l : Line) (x : State) (d e : ℕ) → high_distance l x ≡ some (suc d) → lowest (high_automaton l) d x ≡ some e → guide l x ≡ by_kind l (l.chart.kind e) e x
+unfolding guide
+guide-wanted l x d e q w = ap (λ (o : Option ℕ). by_distance l o x) q ∙ ap (λ (o : Option ℕ). wanted l o x) w
+
 module _ (l : Line) (F : Facts l) (W : ℕ) (wide : (j : ℕ) → IsLevel l.chart j → size l (low l j) ≤ W) where
   record Named (x : State) (e : ℕ) : Type 0 where
     accepted : possible l (flat l) x e ≡ true
@@ -69,10 +74,6 @@ module _ (l : Line) (F : Facts l) (W : ℕ) (wide : (j : ℕ) → IsLevel l.char
     high-falls : (d e K : ℕ) → possible l (flat l) x e ≡ true → high_distance l (moved l x e) ≡ some d → narrowed_count l 0 (moved l x e) ≤ K →
         measure l W x ≡ full l W K d 0 → measure l W (moved l x e) < measure l W x
     high-falls d e K p q s m = omega (arith, m, upper l F W wide (moved l x e) (go_on e p) d K q s)
-
-    guide-wanted : (d e : ℕ) → high_distance l x ≡ some (suc d) → lowest (high_automaton l) d x ≡ some e → guide l x ≡ by_kind l (l.chart.kind e) e x
-    unfolding guide
-    guide-wanted d e q w = ap (λ (o : Option ℕ). by_distance l o x) q ∙ ap (λ (o : Option ℕ). wanted l o x) w
 
     module _ (d e : ℕ) (q : high_distance l x ≡ some (suc d)) (w : lowest (high_automaton l) d x ≡ some e) (lt : e < l.chart.events)
         (p : possible l (high l) x e ≡ true) (q' : high_distance l (moved l x e) ≡ some d) where
@@ -325,12 +326,12 @@ module _ (l : Line) (F : Facts l) (W : ℕ) (wide : (j : ℕ) → IsLevel l.char
       where
         by : (k : Kind) (e : ℕ) → l.chart.kind e ≡ k → lowest (high_automaton l) d x ≡ some e → e < l.chart.events → possible l (high l) x e ≡ true →
             high_distance l (moved l x e) ≡ some d → (f : ℕ) × (guide l x ≡ Event f) × Named x f
-        by High e k w lt p q' = (e, guide-wanted d e q w ∙ ap (λ (k : Kind). by_kind l k e x) k, case-high d e q w lt p q' k)
+        by High e k w lt p q' = (e, guide-wanted l x d e q w ∙ ap (λ (k : Kind). by_kind l k e x) k, case-high d e q w lt p q' k)
         by Low e k w lt p q' = never (possible-alphabet l (high l) x e p) (low-not-high l e (ap is_low k))
-        by Request e k w lt p q' = (e, guide-wanted d e q w ∙ ap (λ (k : Kind). by_kind l k e x) k, case-request d e q w lt p q' k)
+        by Request e k w lt p q' = (e, guide-wanted l x d e q w ∙ ap (λ (k : Kind). by_kind l k e x) k, case-request d e q w lt p q' k)
         by Answer e k w lt p q' =
             let s = step-answer d e q w lt p q' k in
-            (s.0, guide-wanted d e q w ∙ ap (λ (k : Kind). by_kind l k e x) k ∙ s.1, s.2)
+            (s.0, guide-wanted l x d e q w ∙ ap (λ (k : Kind). by_kind l k e x) k ∙ s.1, s.2)
 
     step-home : high_distance l x ≡ some 0 → Outcome x
     unfolding guide high_distance

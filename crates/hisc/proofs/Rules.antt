@@ -20,6 +20,7 @@ use Rattle.hisc.proofs.Walks.{possible-alphabet, marked-at, marked-make, flat-ea
 use Rattle.hisc.proofs.Codes.{Valid, valid, size-pos, distance_some}
 use Rattle.hisc.proofs.Facts.{is-answer, is-request, low_below}
 use Rattle.hisc.proofs.Distances.{over-high, over-rest, over-answer, over_any}
+use Rattle.hisc.proofs.Progress.{guide-wanted}
 use Rattle.hisc.proofs.ShortestWords.{distance-near, near-distance, lowest-is, is-lowest}
 
 abbrev is_home : Guidance → Bool
@@ -153,14 +154,10 @@ module _ (l : Line) (M : WellMade l) (x : State) (v : InRange l x) where
       let q = near-distance l (over-high l M.formed) x (suc w.left) (fit (high l)) w.above in
       (w.left, q, is-lowest l (over-high l M.formed) x w.left e q w.lowers)
 
-  guide-wanted : (d e : ℕ) → high_distance l x ≡ some (suc d) → lowest (high_automaton l) d x ≡ some e → guide l x ≡ by_kind l (l.chart.kind e) e x
-  unfolding guide
-  guide-wanted d e q s = ap (λ (o : Option ℕ). by_distance l o x) q ∙ ap (λ (o : Option ℕ). wanted l o x) s
-
   guide-answer : (j a : ℕ) → WantedAnswer l x j a → guide l x ≡ answer_or l j a x (low_distance l j (to_answer l j a) x)
   guide-answer j a w =
       let p = is-wanted a w.wanted in
-      guide-wanted p.0 a p.1 p.2 ∙ ap (λ (k : Kind). by_kind l k a x) (is-answer (l.chart.kind a) w.answers) ∙
+      guide-wanted l x p.0 a p.1 p.2 ∙ ap (λ (k : Kind). by_kind l k a x) (is-answer (l.chart.kind a) w.answers) ∙
       ap (λ (i : ℕ). answer_or l i a x (low_distance l i (to_answer l i a) x)) w.owned
 
   -- words and distances of the low walks
@@ -277,7 +274,7 @@ module _ (l : Line) (M : WellMade l) (x : State) (v : InRange l x) where
   unfolding guide high_distance low_distance
   named_event e (wanted_high w k) =
       let p = is-wanted e w in
-      guide-wanted p.0 e p.1 p.2 ∙ ap (λ (k : Kind). by_kind l k e x) (is-high (l.chart.kind e) k)
+      guide-wanted l x p.0 e p.1 p.2 ∙ ap (λ (k : Kind). by_kind l k e x) (is-high (l.chart.kind e) k)
     where
       is-high : (k : Kind) → is_high k ≡ true → k ≡ High
       is-high High e = refl
@@ -286,7 +283,7 @@ module _ (l : Line) (M : WellMade l) (x : State) (v : InRange l x) where
       is-high Answer e = never e refl
   named_event e (wanted_request w k) =
       let p = is-wanted e w in
-      guide-wanted p.0 e p.1 p.2 ∙ ap (λ (k : Kind). by_kind l k e x) (is-request (l.chart.kind e) k)
+      guide-wanted l x p.0 e p.1 p.2 ∙ ap (λ (k : Kind). by_kind l k e x) (is-request (l.chart.kind e) k)
   named_event e (wanted_answer j w p) = guide-answer j e w ∙ ap (answer_or l j e x) (possible-zero j e p)
   named_event e (toward_answer j a d w n s) =
       let q : low_distance l j (to_answer l j a) x ≡ some (suc d) = near-distance l (over-answer l M.formed j a) x (suc d) (fit (low l j)) n in
