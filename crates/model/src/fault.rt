@@ -142,25 +142,25 @@ impl Fields {
     }
 
     fn level(self, level: u8) -> Fields
-        ensures { result ≡ fields self.number self.layer self.point level self.component self.place self.event }
+        ensures { result ≡ record self { level = level } }
     {
         Fields { level, ..self }
     }
 
     fn component(self, component: u8) -> Fields
-        ensures { result ≡ fields self.number self.layer self.point self.level component self.place self.event }
+        ensures { result ≡ record self { component = component } }
     {
         Fields { component, ..self }
     }
 
     fn place(self, place: u32) -> Fields
-        ensures { result ≡ fields self.number self.layer self.point self.level self.component place self.event }
+        ensures { result ≡ record self { place = place } }
     {
         Fields { place, ..self }
     }
 
     fn event(self, event: u8) -> Fields
-        ensures { result ≡ fields self.number self.layer self.point self.level self.component self.place event }
+        ensures { result ≡ record self { event = event } }
     {
         Fields { event, ..self }
     }
