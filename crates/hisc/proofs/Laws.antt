@@ -92,12 +92,12 @@ lawful l M P = record {
 
 -- the answer of a guide that leads home
 answer-possible : (l : Line) (k : ℕ) (x : State) → HomeWithin l k x → (e : ℕ) → guide l x ≡ Event e → possible l (flat l) x e ≡ true
-answer-possible l k x (there g) e q = absurd (let z : ◌≡◌ {A = ℕ} 0 1 = cc in omega arith)
+answer-possible l k x (there g) e q = absurd cc
 answer-possible l (suc k) x (onward d g p h) e q = let z : d ≡ e = cc in subst (λ (m : ℕ). possible l (flat l) x m ≡ true) z p
 
 answer-given : (l : Line) (k : ℕ) (x : State) → HomeWithin l k x → guide l x ≡ NoEvent → ⊥
-answer-given l k x (there g) q = let z : ◌≡◌ {A = ℕ} 0 1 = cc in omega arith
-answer-given l (suc k) x (onward d g p h) q = let z : ◌≡◌ {A = ℕ} 0 1 = cc in omega arith
+answer-given l k x (there g) q = cc
+answer-given l (suc k) x (onward d g p h) q = cc
 
 pub assured : AssuredThroughout
 assured l M P x r = record {

@@ -149,17 +149,17 @@ module _ (l : Line) where
 
   pub term-skipped : (x : State) (j : ℕ) → term j x j ≡ 0
   unfolding term
-  term-skipped x j = ap (λ (b : Bool). cond b 0 (cond (narrowed x j) 1 0)) (eq-eqb j j refl)
+  term-skipped x j = ap (λ (b : Bool). cond b 0 (cond (narrowed x j) 1 0)) (eq-eqb _ _ refl)
 
   pub term-narrowed : (skip : ℕ) (x : State) (j : ℕ) → j ≢ skip → narrowed x j ≡ true → term skip x j ≡ 1
   unfolding term
-  term-narrowed skip x j d t = ap (λ (b : Bool). cond b 0 (cond (narrowed x j) 1 0)) (ne_eqb j skip d) ∙ ap (λ (b : Bool). cond b 1 0) t
+  term-narrowed skip x j d t = ap (λ (b : Bool). cond b 0 (cond (narrowed x j) 1 0)) (ne_eqb _ _ d) ∙ ap (λ (b : Bool). cond b 1 0) t
 
   pub term-same : (skip skip' : ℕ) (x y : State) (j : ℕ) → j ≢ skip → j ≢ skip' → narrowed x j ≡ narrowed y j → term skip x j ≡ term skip' y j
   unfolding term
   term-same skip skip' x y j d d' q =
-      ap (λ (b : Bool). cond b 0 (cond (narrowed x j) 1 0)) (ne_eqb j skip d) ∙ ap (λ (b : Bool). cond b 1 0) q ∙
-      sym (ap (λ (b : Bool). cond b 0 (cond (narrowed y j) 1 0)) (ne_eqb j skip' d'))
+      ap (λ (b : Bool). cond b 0 (cond (narrowed x j) 1 0)) (ne_eqb _ _ d) ∙ ap (λ (b : Bool). cond b 1 0) q ∙
+      sym (ap (λ (b : Bool). cond b 0 (cond (narrowed y j) 1 0)) (ne_eqb _ _ d'))
 
   pub count-skip : (skip : ℕ) (x : State) → narrowed_count skip x ≤ narrowed_count 0 x
   unfolding narrowed_count
@@ -194,21 +194,20 @@ module _ (l : Line) where
     unfolding narrowed
     narrowed-like j v x y s =
         let fc : x (interface j) ≡ y (interface j) = s (interface j) (omega (arith, v)) (low-interface l j) in
-        let sa : Same l (interface_alone l j) x y = λ c lt i. subst (λ (m : ℕ). x m ≡ y m) (sym (eqb-true c (interface j) i)) fc in
+        let sa : Same l (interface_alone l j) x y = λ c lt i. subst (λ (m : ℕ). x m ≡ y m) (sym (eqb-true _ _ i)) fc in
         ap₂ ◌&&◌ (ap (λ (m : ℕ). not ((l.component (interface j)).marked m)) fc)
         (ap (any l.chart.events) (fun_ext (λ a. ap₂ ◌&&◌ (ap (λ (b : Bool). is_answer (l.chart.kind a) && b) (possible-like l (interface_alone l j) x y a sa)) (ap is_none (low-like l F j (to_answer l j a) (over-answer l F.formed j a) x y s)))))
 
     pub narrowed-marked : (x : State) (j : ℕ) → is_marked l (interface j) x ≡ true → narrowed x j ≡ false
     unfolding narrowed
-    narrowed-marked x j m = and_left (not (is_marked l (interface j) x)) (any l.chart.events (out_of_reach x j)) (not_from_true (is_marked l (interface j) x) m)
+    narrowed-marked x j m = and_left _ _ (not_from_true _ m)
 
     pub narrowed-since : (x : State) (j a : ℕ) → is_marked l (interface j) x ≡ false → a < l.chart.events → l.chart.kind a ≡ Answer → possible l (interface_alone l j) x a ≡ true → low_distance l j (to_answer l j a) x ≡ none → narrowed x j ≡ true
     unfolding narrowed is_none
     narrowed-since x j a u lt k p n =
-        and_from (not (is_marked l (interface j) x)) (any l.chart.events (out_of_reach x j)) (not_from_false (is_marked l (interface j) x) u)
+        and_from _ _ (not_from_false _ u)
         (any-from l.chart.events (out_of_reach x j) a lt
-        (and_from (is_answer (l.chart.kind a) && possible l (interface_alone l j) x a) (is_none (low_distance l j (to_answer l j a) x))
-        (and_from (is_answer (l.chart.kind a)) (possible l (interface_alone l j) x a) (ap is_answer k) p) (ap is_none n)))
+        (and_from _ _ (and_from _ _ (ap is_answer k) p) (ap is_none n)))
 
     pub not-narrowed : (x : State) (j : ℕ) → ((a : ℕ) → is_answer (l.chart.kind a) ≡ true → possible l (interface_alone l j) x a ≡ true → (d : ℕ) × (low_distance l j (to_answer l j a) x ≡ some d)) → narrowed x j ≡ false
     unfolding narrowed is_none
@@ -216,11 +215,11 @@ module _ (l : Line) where
         elim (cases_Bool (any l.chart.events (out_of_reach x j))) [
           | inl t ↦
               let r = any_some l.chart.events (out_of_reach x j) t in
-              let q = and_parts (is_answer (l.chart.kind r.0) && possible l (interface_alone l j) x r.0) (is_none (low_distance l j (to_answer l j r.0) x)) r.2 in
-              let q' = and_parts (is_answer (l.chart.kind r.0)) (possible l (interface_alone l j) x r.0) q.0 in
+              let q = and_parts _ _ r.2 in
+              let q' = and_parts _ _ q.0 in
               let g = f r.0 q'.0 q'.1 in
               never q.1 (ap is_none g.1)
-          | inr u ↦ and_right (not (is_marked l (interface j) x)) (any l.chart.events (out_of_reach x j)) u
+          | inr u ↦ and_right _ _ u
         ]
 
     -- the upper bound: one more unit of the high distance is worth a whole low walk

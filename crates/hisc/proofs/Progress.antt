@@ -1,8 +1,8 @@
 -- The guide names an accepted event that lowers the measure, or says home. Assumes nothing.
-use Rattle.std.proofs.Common.{◌≡◌, ℕ, zero, suc, ◌+◌, ◌-◌, ◌*◌, ◌<◌, ◌≤◌, true, false, not, leb, ◌≢◌, ◌⊎◌, sym, refl, ap, ◌∙◌, subst, inl, inr, mul-le-mul_right, arith}
+use Rattle.std.proofs.Common.{◌≡◌, ℕ, zero, suc, ◌+◌, ◌-◌, ◌*◌, ◌<◌, ◌≤◌, true, false, ◌≢◌, ◌⊎◌, sym, refl, ap, ◌∙◌, subst, inl, inr, mul-le-mul_right, arith}
 use mathlib.Core.Option.{Option, none, some}
 use native.Mathlib.Nat.{le-max_left, le-max_right}
-use Rattle.std.proofs.lemmas.Bool.{cases_Bool, cases_eq, and_parts, leb-true, not-true}
+use Rattle.std.proofs.lemmas.Bool.{false_from_ne_true, cases_eq, and_parts, leb-true, not-true}
 use Rattle.model.specs.Numbers.{any, first}
 use Rattle.model.specs.Generators.{forbids}
 use Rattle.model.specs.Charts.{IsLevel, is_high, is_low, is_answer}
@@ -27,6 +27,11 @@ D-below : (l : Line) (x : State) (D : ℕ) → high_distance l x ≡ some D → 
 unfolding high_distance
 D-below l x D q = (dist-is (high_automaton l) (size l (high l)) D x q).0
 
+-- away from home the guide goes by the kind of the wanted event
+pub guide-wanted : (l : Line) (x : State) (d e : ℕ) → high_distance l x ≡ some (suc d) → lowest (high_automaton l) d x ≡ some e → guide l x ≡ by_kind l (l.chart.kind e) e x
+unfolding guide
+guide-wanted l x d e q w = ap (λ (o : Option ℕ). by_distance l o x) q ∙ ap (λ (o : Option ℕ). wanted l o x) w
+
 module _ (l : Line) (F : Facts l) (W : ℕ) (wide : (j : ℕ) → IsLevel l.chart j → size l (low l j) ≤ W) where
   record Named (x : State) (e : ℕ) : Type 0 where
     accepted : possible l (flat l) x e ≡ true
@@ -41,6 +46,14 @@ module _ (l : Line) (F : Facts l) (W : ℕ) (wide : (j : ℕ) → IsLevel l.char
 
     others : (e i : ℕ) → IsLevel l.chart i → l.chart.owner e ≢ i → Same l (low l i) (moved l x e) x
     others e i v d = same-sym l (low l i) x (moved l x e) (still l (low l i) x e (low-unknown l F.known i e v (low-other l i e d)))
+
+    -- an event that the level of its owner permits is no other level's
+    owned : (e : ℕ) → possible l (low l (l.chart.owner e)) x e ≡ true → (i : ℕ) → IsLevel l.chart i → (possible l (low l i) x e ≡ true) ⊎ ((low l i).alphabet e ≡ false)
+    owned e p i v =
+        elim (cases_eq (l.chart.owner e) i) [
+          | inl z ↦ inl (subst (λ (m : ℕ). possible l (low l m) x e ≡ true) z p)
+          | inr z ↦ inr (low-other l i e z)
+        ]
 
     -- the terms of all levels, from those of the levels that do not own e and of the one that does
     around : (skip skip' e : ℕ) → ((i : ℕ) → IsLevel l.chart i → l.chart.owner e ≢ i → (i ≢ skip) × (i ≢ skip')) →
@@ -61,10 +74,6 @@ module _ (l : Line) (F : Facts l) (W : ℕ) (wide : (j : ℕ) → IsLevel l.char
     high-falls : (d e K : ℕ) → possible l (flat l) x e ≡ true → high_distance l (moved l x e) ≡ some d → narrowed_count l 0 (moved l x e) ≤ K →
         measure l W x ≡ full l W K d 0 → measure l W (moved l x e) < measure l W x
     high-falls d e K p q s m = omega (arith, m, upper l F W wide (moved l x e) (go_on e p) d K q s)
-
-    guide-wanted : (d e : ℕ) → high_distance l x ≡ some (suc d) → lowest (high_automaton l) d x ≡ some e → guide l x ≡ by_kind l (l.chart.kind e) e x
-    unfolding guide
-    guide-wanted d e q w = ap (λ (o : Option ℕ). by_distance l o x) q ∙ ap (λ (o : Option ℕ). wanted l o x) w
 
     module _ (d e : ℕ) (q : high_distance l x ≡ some (suc d)) (w : lowest (high_automaton l) d x ≡ some e) (lt : e < l.chart.events)
         (p : possible l (high l) x e ≡ true) (q' : high_distance l (moved l x e) ≡ some d) where
@@ -102,10 +111,7 @@ module _ (l : Line) (F : Facts l) (W : ℕ) (wide : (j : ℕ) → IsLevel l.char
           a : possible l (flat l) x e ≡ true
           a =
               accept l F.known x e lt (inl p)
-              (λ i u. elim (cases_eq (l.chart.owner e) i) [
-                | inl z ↦ inl (subst (λ (m : ℕ). possible l (low l m) x e ≡ true) z lo)
-                | inr z ↦ inr (low-other l i e z)
-              ])
+              (owned e lo)
 
           tight : term l 0 (moved l x e) (l.chart.owner e) ≤ term l 0 x (l.chart.owner e)
           tight =
@@ -127,20 +133,14 @@ module _ (l : Line) (F : Facts l) (W : ℕ) (wide : (j : ℕ) → IsLevel l.char
 
         unmarked : is_marked l (interface (l.chart.owner e)) x ≡ false
         unmarked =
-            elim (cases_Bool (is_marked l (interface (l.chart.owner e)) x)) [
-              | inl t ↦ answer≢request k (F.pair_requests (l.chart.owner e) level x near t e al).0
-              | inr f ↦ f
-            ]
+            false_from_ne_true (is_marked l (interface (l.chart.owner e)) x) (λ t. answer≢request k (F.pair_requests (l.chart.owner e) level x near t e al).0)
 
         case-now : low_distance l (l.chart.owner e) (to_answer l (l.chart.owner e) e) x ≡ some 0 → Named x e
         unfolding low_distance
         case-now c =
             let lo : possible l (low l (l.chart.owner e)) x e ≡ true = (dist-is (to_answer l (l.chart.owner e) e) (size l (low l (l.chart.owner e))) 0 x c).1 in
             let a = accept l F.known x e lt (inl p)
-            (λ i u. elim (cases_eq (l.chart.owner e) i) [
-              | inl z ↦ inl (subst (λ (m : ℕ). possible l (low l m) x e ≡ true) z lo)
-              | inr z ↦ inr (low-other l i e z)
-            ]) in
+            (owned e lo) in
             let m = (F.pair_answers (l.chart.owner e) level x near unmarked e al).1 in
             let t = term-clear l 0 (moved l x e) (l.chart.owner e) (narrowed-marked l F (moved l x e) (l.chart.owner e) m) in
             let s = count-le l 0 (l.chart.owner e) (moved l x e) x (around 0 (l.chart.owner e) e (λ i v z. (omega (arith, v), omega arith)) (λ v. omega (arith, t))) in
@@ -157,10 +157,7 @@ module _ (l : Line) (F : Facts l) (W : ℕ) (wide : (j : ℕ) → IsLevel l.char
       low-accepted : possible l (flat l) x e ≡ true
       low-accepted =
           accept l F.known x e (low_below l j e (possible-alphabet l (low l j) x e low-possible)) (inr (low-not-high l e (low_enabled-parts l j x e c).1))
-          (λ i u. elim (cases_eq j i) [
-            | inl z ↦ inl (subst (λ (m : ℕ). possible l (low l m) x e ≡ true) z low-possible)
-            | inr z ↦ inr (low-other l i e (omega (arith, low-owned)))
-          ])
+          (owned e (subst (λ (m : ℕ). possible l (low l m) x e ≡ true) (sym low-owned) low-possible))
 
       high-unmoved : Same l (high l) (moved l x e) x
       high-unmoved = same-sym l (high l) x (moved l x e) (still l (high l) x e (high-unknown l F.known e (low-not-high l e (low_enabled-parts l j x e c).1)))
@@ -226,7 +223,7 @@ module _ (l : Line) (F : Facts l) (W : ℕ) (wide : (j : ℕ) → IsLevel l.char
         case-other a c below can = record { accepted = acc; falls = falling }
           where
             lo : possible l (low l own) x a ≡ true
-            lo = (and_parts (possible l (low l own) x a) (is_answer (l.chart.kind a)) can).0
+            lo = (and_parts _ _ can).0
 
             ka : l.chart.kind a ≡ Answer
             ka = is-answer (l.chart.kind a) (and_parts (possible l (low l own) x a) (is_answer (l.chart.kind a)) can).1
@@ -250,10 +247,7 @@ module _ (l : Line) (F : Facts l) (W : ℕ) (wide : (j : ℕ) → IsLevel l.char
             acc : possible l (flat l) x a ≡ true
             acc =
                 accept l F.known x a below (inl hi)
-                (λ i u. elim (cases_eq own i) [
-                  | inl z ↦ inl (subst (λ (m : ℕ). possible l (low l m) x a ≡ true) z lo)
-                  | inr z ↦ inr (low-other l i a (omega (arith, own-a)))
-                ])
+                (owned a (subst (λ (m : ℕ). possible l (low l m) x a ≡ true) (sym own-a) lo))
 
             clear : term l 0 (moved l x a) own ≡ 0
             clear =
@@ -310,8 +304,8 @@ module _ (l : Line) (F : Facts l) (W : ℕ) (wide : (j : ℕ) → IsLevel l.char
         else-any : low_distance l (l.chart.owner e) (to_answer l (l.chart.owner e) e) x ≡ none → (n : ℕ) → low_distance l (l.chart.owner e) (to_any_answer l (l.chart.owner e)) x ≡ some n → (f : ℕ) × (by_kind l Answer e x ≡ Event f) × Named x f
         else-any nw zero c =
             let g : any l.chart.events (answer_enabled l (l.chart.owner e) x) ≡ true = (dist-is (to_any_answer l (l.chart.owner e)) (size l (low l (l.chart.owner e))) 0 x (unfold low_distance in c)).1 in
-            let i = finds.any_some l.chart.events (answer_enabled l (l.chart.owner e) x) g in
-            let b = first_some l.chart.events (answer_enabled l (l.chart.owner e) x) i.0 i.1 i.2 in (
+            let i = finds.any_some _ _ g in
+            let b = first_some _ _ i.0 i.1 i.2 in (
               b.0,
               ap (answer_or l (l.chart.owner e) e x) nw ∙
                   ap (λ (o : Option ℕ). toward (to_any_answer l (l.chart.owner e)) o x (named (first l.chart.events (answer_enabled l (l.chart.owner e) x)))) c ∙ ap named b.1,
@@ -332,12 +326,12 @@ module _ (l : Line) (F : Facts l) (W : ℕ) (wide : (j : ℕ) → IsLevel l.char
       where
         by : (k : Kind) (e : ℕ) → l.chart.kind e ≡ k → lowest (high_automaton l) d x ≡ some e → e < l.chart.events → possible l (high l) x e ≡ true →
             high_distance l (moved l x e) ≡ some d → (f : ℕ) × (guide l x ≡ Event f) × Named x f
-        by High e k w lt p q' = (e, guide-wanted d e q w ∙ ap (λ (k : Kind). by_kind l k e x) k, case-high d e q w lt p q' k)
+        by High e k w lt p q' = (e, guide-wanted l x d e q w ∙ ap (λ (k : Kind). by_kind l k e x) k, case-high d e q w lt p q' k)
         by Low e k w lt p q' = never (possible-alphabet l (high l) x e p) (low-not-high l e (ap is_low k))
-        by Request e k w lt p q' = (e, guide-wanted d e q w ∙ ap (λ (k : Kind). by_kind l k e x) k, case-request d e q w lt p q' k)
+        by Request e k w lt p q' = (e, guide-wanted l x d e q w ∙ ap (λ (k : Kind). by_kind l k e x) k, case-request d e q w lt p q' k)
         by Answer e k w lt p q' =
             let s = step-answer d e q w lt p q' k in
-            (s.0, guide-wanted d e q w ∙ ap (λ (k : Kind). by_kind l k e x) k ∙ s.1, s.2)
+            (s.0, guide-wanted l x d e q w ∙ ap (λ (k : Kind). by_kind l k e x) k ∙ s.1, s.2)
 
     step-home : high_distance l x ≡ some 0 → Outcome x
     unfolding guide high_distance
@@ -346,11 +340,11 @@ module _ (l : Line) (F : Facts l) (W : ℕ) (wide : (j : ℕ) → IsLevel l.char
         elim (option_cases (first (suc l.chart.levels) (not_at_rest l x))) [
           | inl j ↦
               let f = first-is (suc l.chart.levels) (not_at_rest l x) j.0 j.1 in
-              let u = and_parts (leb 1 j.0) (not (at_rest l j.0 x)) f.holds in
-              let v : IsLevel l.chart j.0 = (leb-true 1 j.0 u.0, omega (arith, f.within)) in
+              let u = and_parts _ _ f.holds in
+              let v : IsLevel l.chart j.0 = (leb-true _ _ u.0, omega (arith, f.within)) in
               let m : marked l (high l) x ≡ true = (dist-is (high_automaton l) (size l (high l)) 0 x q).1 in
               let h = rest_some l F x r j.0 v (marked-at l (high l) x m (interface j.0) (omega (arith, v)) (high-interface l j.0 v)) in
-              inr (at j.0 v (not-true (at_rest l j.0 x) u.1) (g ∙ ap (λ (o : Option ℕ). homeward l o x) j.1) h.0 h.1)
+              inr (at j.0 v (not-true _ u.1) (g ∙ ap (λ (o : Option ℕ). homeward l o x) j.1) h.0 h.1)
           | inr n ↦ inl (g ∙ ap (λ (o : Option ℕ). homeward l o x) n)
         ]
       where

@@ -1,8 +1,8 @@
 -- The replies and the states of queues of calls fit together. Assumes nothing.
-use Rattle.std.proofs.Common.{◌≡◌, ℕ, zero, suc, ◌+◌, ◌<◌, ◌≤◌, Bool, true, false, cond, ◌&&◌, eqb, ltb, ◌⊎◌, List, [], ◌∷◌, ◌++◌, length, get_or, sym, refl, ap, ◌∙◌, subst, ap₂, inl, inr, arith, length-append}
+use Rattle.std.proofs.Common.{◌≡◌, ℕ, zero, suc, ◌+◌, ◌<◌, Bool, true, false, cond, ◌&&◌, eqb, ltb, ◌⊎◌, List, [], ◌∷◌, ◌++◌, length, get_or, sym, refl, ap, ◌∙◌, subst, ap₂, inl, inr, arith, length-append}
 use mathlib.Core.Option.{Option}
 use Rattle.std.proofs.lemmas.List.{get_or_append_left, get_or_push}
-use Rattle.std.proofs.lemmas.Bool.{cases_Bool, cases_eq, and_parts, and_from, eq-eqb, ne_eqb, ltb-true, lt-ltb}
+use Rattle.std.proofs.lemmas.Bool.{cases_Bool, cases_eq, and_parts, and_from, eq-eqb, ne_eqb, ltb-true, lt-ltb, le-ltb}
 use Rattle.model.specs.Generators.{Gen, forbids, moves}
 use Rattle.model.specs.declared.fault.Fault.{Fault}
 use Rattle.model.specs.declared.fault.Fault.TheVariants.{EventNumber}
@@ -53,18 +53,15 @@ module _ (l : Line) where
   refused_stays x (Guide cells) f q = refl
   refused_stays x (Possible k) f q = refl
   refused_stays x Look f q = refl
-  refused_stays x Restart f q = absurd (let z : ◌≡◌ {A = ℕ} 0 1 = cc in omega arith)
+  refused_stays x Restart f q = absurd cc
 
 -- lists of the events that pass
 occurs-join : (e : ℕ) (a b : List ℕ) → occurs e (a ++ b) ≡ occurs e a + occurs e b
 occurs-join e [] b = omega arith
 occurs-join e (d ∷ a) b = omega (arith, occurs-join e a b)
 
-not-below : (e n : ℕ) → n ≤ e → ltb e n ≡ false
-not-below e n ge = elim (cases_Bool (ltb e n)) [ inl t ↦ absurd (omega (arith, ltb-true e n t)) | inr f ↦ f ]
-
 pub occurs-passing : (n : ℕ) (p : ℕ → Bool) (e : ℕ) → occurs e (passing n p) ≡ cond (ltb e n && p e) 1 0
-occurs-passing zero p e = sym (ap (λ (b : Bool). cond (b && p e) 1 0) (not-below e 0 (omega arith)))
+occurs-passing zero p e = sym (ap (λ (b : Bool). cond (b && p e) 1 0) (le-ltb e 0 (omega arith)))
 occurs-passing (suc n) p e =
     occurs-join e (passing n p) (cond (p n) (n ∷ []) []) ∙ ap (λ (m : ℕ). m + occurs e (cond (p n) (n ∷ []) [])) (occurs-passing n p e) ∙ last (cases_eq e n)
   where
@@ -82,14 +79,14 @@ occurs-passing (suc n) p e =
 
     at_n : cond (ltb n n && p n) 1 0 + occurs n (cond (p n) (n ∷ []) []) ≡ cond (ltb n (suc n) && p n) 1 0
     at_n =
-        ap₂ (λ (a b : ℕ). a + b) (ap (λ (b : Bool). cond (b && p n) 1 0) (not-below n n (omega arith))) (one n (p n) ∙ ap (λ (b : Bool). cond (p n && b) 1 0) (eq-eqb n n refl)) ∙
+        ap₂ (λ (a b : ℕ). a + b) (ap (λ (b : Bool). cond (b && p n) 1 0) (le-ltb n n (omega arith))) (one n (p n) ∙ ap (λ (b : Bool). cond (p n && b) 1 0) (eq-eqb _ _ refl)) ∙
         both (p n) ∙ sym (ap (λ (b : Bool). cond (b && p n) 1 0) (lt-ltb n (suc n) (omega arith)))
 
     last : (e ≡ n) ⊎ (e ≡ n → ⊥) → cond (ltb e n && p e) 1 0 + occurs e (cond (p n) (n ∷ []) []) ≡ cond (ltb e (suc n) && p e) 1 0
     last (inl z) = subst (λ (m : ℕ). cond (ltb m n && p m) 1 0 + occurs m (cond (p n) (n ∷ []) []) ≡ cond (ltb m (suc n) && p m) 1 0) (sym z) at_n
     last (inr d) =
-        let rest : occurs e (cond (p n) (n ∷ []) []) ≡ 0 = one e (p n) ∙ ap (λ (b : Bool). cond (p n && b) 1 0) (ne_eqb e n d) ∙ none_more (p n) in
-        let same : ltb e n ≡ ltb e (suc n) = bool_iff (ltb e n) (ltb e (suc n)) (λ t. lt-ltb e (suc n) (omega (arith, ltb-true e n t))) (λ t. lt-ltb e n (omega (arith, ltb-true e (suc n) t, d))) in
+        let rest : occurs e (cond (p n) (n ∷ []) []) ≡ 0 = one e (p n) ∙ ap (λ (b : Bool). cond (p n && b) 1 0) (ne_eqb _ _ d) ∙ none_more (p n) in
+        let same : ltb e n ≡ ltb e (suc n) = bool_iff (ltb e n) (ltb e (suc n)) (λ t. lt-ltb e (suc n) (omega (arith, ltb-true _ _ t))) (λ t. lt-ltb e n (omega (arith, ltb-true _ _ t, d))) in
         let here : ◌≡◌ {A = ℕ} (cond (ltb e n && p e) 1 0) (cond (ltb e (suc n) && p e) 1 0) = ap (λ (b : Bool). cond (b && p e) 1 0) same in
         omega (arith, rest, here)
 
@@ -126,8 +123,8 @@ counted-states l c x w h (Restart ∷ q) = counted-states l c (initial l) [] ref
 in-flat : (l : Line) (x : State) (e : ℕ) → (ltb e l.chart.events && possible l (flat l) x e) ≡ possible l (flat l) x e
 in-flat l x e =
     bool_iff (ltb e l.chart.events && possible l (flat l) x e) (possible l (flat l) x e)
-    (λ t. (and_parts (ltb e l.chart.events) (possible l (flat l) x e) t).1)
-    (λ t. and_from (ltb e l.chart.events) (possible l (flat l) x e) (possible-alphabet l (flat l) x e t) t)
+    (λ t. (and_parts _ _ t).1)
+    (λ t. and_from _ _ (possible-alphabet l (flat l) x e t) t)
 
 pub calls-agree : AllCallsAgree
 calls-agree l = record {

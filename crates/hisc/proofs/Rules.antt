@@ -20,6 +20,7 @@ use Rattle.hisc.proofs.Walks.{possible-alphabet, marked-at, marked-make, flat-ea
 use Rattle.hisc.proofs.Codes.{Valid, valid, size-pos, distance_some}
 use Rattle.hisc.proofs.Facts.{is-answer, is-request, low_below}
 use Rattle.hisc.proofs.Distances.{over-high, over-rest, over-answer, over_any}
+use Rattle.hisc.proofs.Progress.{guide-wanted}
 use Rattle.hisc.proofs.ShortestWords.{distance-near, near-distance, lowest-is, is-lowest}
 
 abbrev is_home : Guidance → Bool
@@ -71,8 +72,8 @@ module _ (l : Line) where
         ready j v =
             let u = first-none (suc l.chart.levels) (not_at_rest l x) n j (omega (arith, v)) in
             elim (and_cases (leb 1 j) (not (at_rest l j x)) u) [
-              | inl a ↦ never (le-leb 1 j v.0) a
-              | inr b ↦ and_parts ((l.component (plant j)).marked (x (plant j))) ((l.component (supervisor j)).marked (x (supervisor j))) (not-false (at_rest l j x) b)
+              | inl a ↦ never (le-leb _ _ v.0) a
+              | inr b ↦ and_parts _ _ (not-false _ b)
             ]
 
     pub home_marked : guide l x ≡ Home → marked l (flat l) x ≡ true
@@ -100,11 +101,10 @@ module _ (l : Line) where
         let q : high_distance l x ≡ some 0 = dist-goal (high_automaton l) (size l (high l)) x (size-pos l (high l) x (λ c lt i. v c lt)) hi in
         let n : first (suc l.chart.levels) (not_at_rest l x) ≡ none = elim (first-or (suc l.chart.levels) (not_at_rest l x)) [
           | inl k ↦
-              let u = and_parts (leb 1 k.0) (not (at_rest l k.0 x)) k.2.holds in
-              let v : IsLevel l.chart k.0 = (leb-true 1 k.0 u.0, omega (arith, k.2.within)) in
-              never (and_from ((l.component (plant k.0)).marked (x (plant k.0))) ((l.component (supervisor k.0)).marked (x (supervisor k.0)))
-              (marked-at l (flat l) x m (plant k.0) (omega (arith, v)) refl) (marked-at l (flat l) x m (supervisor k.0) (omega (arith, v)) refl))
-              (not-true (at_rest l k.0 x) u.1)
+              let u = and_parts _ _ k.2.holds in
+              let v : IsLevel l.chart k.0 = (leb-true _ _ u.0, omega (arith, k.2.within)) in
+              never (and_from _ _ (marked-at l (flat l) x m (plant k.0) (omega (arith, v)) refl) (marked-at l (flat l) x m (supervisor k.0) (omega (arith, v)) refl))
+              (not-true _ u.1)
           | inr f ↦ f.0
         ] in
         ap (λ (o : Option ℕ). by_distance l o x) q ∙ ap (λ (o : Option ℕ). homeward l o x) n
@@ -114,10 +114,10 @@ module _ (l : Line) where
 
 -- where an answer of the guide comes from
 event-is : {X : Type 0} {e : ℕ} → NoEvent ≡ Event e → X
-event-is {e = e} q = absurd (let z : ◌≡◌ {A = ℕ} 0 1 = cc in omega arith)
+event-is {e = e} q = absurd cc
 
 home-is : {X : Type 0} {e : ℕ} → Home ≡ Event e → X
-home-is {e = e} q = absurd (let z : ◌≡◌ {A = ℕ} 0 1 = cc in omega arith)
+home-is {e = e} q = absurd cc
 
 same-event : (d e : ℕ) → Event d ≡ Event e → d ≡ e
 same-event d e q = cc
@@ -154,14 +154,10 @@ module _ (l : Line) (M : WellMade l) (x : State) (v : InRange l x) where
       let q = near-distance l (over-high l M.formed) x (suc w.left) (fit (high l)) w.above in
       (w.left, q, is-lowest l (over-high l M.formed) x w.left e q w.lowers)
 
-  guide-wanted : (d e : ℕ) → high_distance l x ≡ some (suc d) → lowest (high_automaton l) d x ≡ some e → guide l x ≡ by_kind l (l.chart.kind e) e x
-  unfolding guide
-  guide-wanted d e q s = ap (λ (o : Option ℕ). by_distance l o x) q ∙ ap (λ (o : Option ℕ). wanted l o x) s
-
   guide-answer : (j a : ℕ) → WantedAnswer l x j a → guide l x ≡ answer_or l j a x (low_distance l j (to_answer l j a) x)
   guide-answer j a w =
       let p = is-wanted a w.wanted in
-      guide-wanted p.0 a p.1 p.2 ∙ ap (λ (k : Kind). by_kind l k a x) (is-answer (l.chart.kind a) w.answers) ∙
+      guide-wanted l x p.0 a p.1 p.2 ∙ ap (λ (k : Kind). by_kind l k a x) (is-answer (l.chart.kind a) w.answers) ∙
       ap (λ (i : ℕ). answer_or l i a x (low_distance l i (to_answer l i a) x)) w.owned
 
   -- words and distances of the low walks
@@ -186,7 +182,7 @@ module _ (l : Line) (M : WellMade l) (x : State) (v : InRange l x) where
   zero-possible j a q = (dist-is (to_answer l j a) (size l (low l j)) 0 x q).1
 
   answer-below : (j e : ℕ) → answer_enabled l j x e ≡ true → e < l.chart.events
-  answer-below j e t = low_below l j e (possible-alphabet l (low l j) x e (and_parts (possible l (low l j) x e) (is_answer (l.chart.kind e)) t).0)
+  answer-below j e t = low_below l j e (possible-alphabet l (low l j) x e (and_parts _ _ t).0)
 
   -- the wanted answer, and the others of its level
   answer-names : (j a e : ℕ) → WantedAnswer l x j a → answer_or l j a x (low_distance l j (to_answer l j a) x) ≡ Event e → Names l x e
@@ -220,13 +216,13 @@ module _ (l : Line) (M : WellMade l) (x : State) (v : InRange l x) where
   unrested-is : (j : ℕ) → first (suc l.chart.levels) (not_at_rest l x) ≡ some j → LowestUnrested l x j
   unrested-is j q =
       let f = first-is (suc l.chart.levels) (not_at_rest l x) j q in
-      let u = and_parts (leb 1 j) (not (at_rest l j x)) f.holds in
+      let u = and_parts _ _ f.holds in
       record {
-        level = (leb-true 1 j u.0, omega (arith, f.within));
-        unrested = not-true (at_rest l j x) u.1;
+        level = (leb-true _ _ u.0, omega (arith, f.within));
+        unrested = not-true _ u.1;
         lowest = λ i lv lt. elim (and_cases (leb 1 i) (not (at_rest l i x)) (f.before i lt)) [
-          | inl a ↦ never (le-leb 1 i lv.0) a
-          | inr b ↦ not-false (at_rest l i x) b
+          | inl a ↦ never (le-leb _ _ lv.0) a
+          | inr b ↦ not-false _ b
         ];
       }
 
@@ -234,13 +230,13 @@ module _ (l : Line) (M : WellMade l) (x : State) (v : InRange l x) where
   is-unrested j u =
       is-first (suc l.chart.levels) (not_at_rest l x) j (record {
         within = omega (arith, u.level);
-        holds = and_from (leb 1 j) (not (at_rest l j x)) (le-leb 1 j u.level.0) (not_from_false (at_rest l j x) u.unrested);
+        holds = and_from _ _ (le-leb _ _ u.level.0) (not_from_false _ u.unrested);
         before = λ i lt. before i lt (cases_Bool (leb 1 i));
       })
     where
       before : (i : ℕ) → i < j → (leb 1 i ≡ true) ⊎ (leb 1 i ≡ false) → not_at_rest l x i ≡ false
-      before i lt (inl a) = and_right (leb 1 i) (not (at_rest l i x)) (not_from_true (at_rest l i x) (u.lowest i (leb-true 1 i a, omega (arith, u.level)) lt))
-      before i lt (inr b) = and_left (leb 1 i) (not (at_rest l i x)) b
+      before i lt (inl a) = and_right _ _ (not_from_true _ (u.lowest i (leb-true _ _ a, omega (arith, u.level)) lt))
+      before i lt (inr b) = and_left _ _ b
 
   -- a named event is by the rule
   pub event_named : (e : ℕ) → guide l x ≡ Event e → Names l x e
@@ -278,7 +274,7 @@ module _ (l : Line) (M : WellMade l) (x : State) (v : InRange l x) where
   unfolding guide high_distance low_distance
   named_event e (wanted_high w k) =
       let p = is-wanted e w in
-      guide-wanted p.0 e p.1 p.2 ∙ ap (λ (k : Kind). by_kind l k e x) (is-high (l.chart.kind e) k)
+      guide-wanted l x p.0 e p.1 p.2 ∙ ap (λ (k : Kind). by_kind l k e x) (is-high (l.chart.kind e) k)
     where
       is-high : (k : Kind) → is_high k ≡ true → k ≡ High
       is-high High e = refl
@@ -287,17 +283,17 @@ module _ (l : Line) (M : WellMade l) (x : State) (v : InRange l x) where
       is-high Answer e = never e refl
   named_event e (wanted_request w k) =
       let p = is-wanted e w in
-      guide-wanted p.0 e p.1 p.2 ∙ ap (λ (k : Kind). by_kind l k e x) (is-request (l.chart.kind e) k)
+      guide-wanted l x p.0 e p.1 p.2 ∙ ap (λ (k : Kind). by_kind l k e x) (is-request (l.chart.kind e) k)
   named_event e (wanted_answer j w p) = guide-answer j e w ∙ ap (answer_or l j e x) (possible-zero j e p)
   named_event e (toward_answer j a d w n s) =
       let q : low_distance l j (to_answer l j a) x ≡ some (suc d) = near-distance l (over-answer l M.formed j a) x (suc d) (fit (low l j)) n in
       guide-answer j a w ∙ ap (answer_or l j a x) q ∙ ap named (is-lowest l (over-answer l M.formed j a) x d e q s)
   named_event e (other_answer j a w f s) =
       let z : low_distance l j (to_any_answer l j) x ≡ some 0 = dist-goal (to_any_answer l j) (size l (low l j)) x (size-pos l (low l j) x (fit (low l j)))
-      (any-from l.chart.events (answer_enabled l j x) e (answer-below j e s.enabled) s.enabled) in
+      (any-from _ _ e (answer-below j e s.enabled) s.enabled) in
       guide-answer j a w ∙ ap (answer_or l j a x) (word_none j a f) ∙
       ap (λ (o : Option ℕ). toward (to_any_answer l j) o x (named (first l.chart.events (answer_enabled l j x)))) z ∙
-      ap named (is-first l.chart.events (answer_enabled l j x) e (record { within = answer-below j e s.enabled; holds = s.enabled; before = s.lowest }))
+      ap named (is-first _ _ e (record { within = answer-below j e s.enabled; holds = s.enabled; before = s.lowest }))
   named_event e (toward_other j a d w f n s) =
       let q : low_distance l j (to_any_answer l j) x ≡ some (suc d) = near-distance l (over_any l M.formed j) x (suc d) (fit (low l j)) n in
       guide-answer j a w ∙ ap (answer_or l j a x) (word_none j a f) ∙

@@ -1,7 +1,7 @@
 -- Distances are the lengths of shortest words. Assumes nothing.
 use Rattle.std.proofs.Common.{◌≡◌, ℕ, zero, suc, true, ◌&&◌, List, [], ◌∷◌, length, refl, ap, ◌∙◌, subst, inl, inr, arith}
 use mathlib.Core.Option.{some}
-use Rattle.std.proofs.lemmas.Bool.{and_parts, and_from, cases_Bool, cases_lt}
+use Rattle.std.proofs.lemmas.Bool.{and_parts, and_from, false_from_ne_true, cases_lt}
 use Rattle.model.specs.Automata.{Automaton, Leads, reaches, distance, lowest}
 use Rattle.model.proofs.Finds.{never, first-is, is-first}
 use Rattle.model.proofs.Words.{reach_step, leads-reach, dist-is, dist-step}
@@ -49,11 +49,11 @@ module _ (l : Line) {w : Walk} {a : Automaton State} (o : Over l w a) where
   unfolding lowest
   lowest-is x d e q s =
       let f = first-is a.events (λ i. a.enabled x i && reaches a d (a.move x i)) e s in
-      let b = and_parts (a.enabled x e) (reaches a d (a.move x e)) f.holds in
+      let b = and_parts _ _ f.holds in
       record {
         enabled = b.0;
         left = distance-near (a.move x e) d (dist-step a (size l w) d x e q f.within b.0 b.1);
-        lowest = λ i lt t n. never (and_from (a.enabled x i) (reaches a d (a.move x i)) t (near-reaches (a.move x i) d n)) (f.before i lt);
+        lowest = λ i lt t n. never (and_from _ _ t (near-reaches (a.move x i) d n)) (f.before i lt);
       }
 
   pub is-lowest : (x : State) (d e : ℕ) → distance a (size l w) x ≡ some (suc d) → LowestStep a x d e → lowest a d x ≡ some e
@@ -61,13 +61,10 @@ module _ (l : Line) {w : Walk} {a : Automaton State} (o : Over l w a) where
   is-lowest x d e q s =
       is-first a.events (λ i. a.enabled x i && reaches a d (a.move x i)) e (record {
         within = o.below x e s.enabled;
-        holds = and_from (a.enabled x e) (reaches a d (a.move x e)) s.enabled (near-reaches (a.move x e) d s.left);
-        before = λ i lt. elim (cases_Bool (a.enabled x i && reaches a d (a.move x i))) [
-          | inl t ↦
-              let b = and_parts (a.enabled x i) (reaches a d (a.move x i)) t in
-              absurd (s.lowest i lt b.0 (distance-near (a.move x i) d (dist-step a (size l w) d x i q (o.below x i b.0) b.0 b.1)))
-          | inr f ↦ f
-        ];
+        holds = and_from _ _ s.enabled (near-reaches (a.move x e) d s.left);
+        before = λ i lt. false_from_ne_true (a.enabled x i && reaches a d (a.move x i)) (λ t.
+            let b = and_parts _ _ t in
+            s.lowest i lt b.0 (distance-near (a.move x i) d (dist-step a (size l w) d x i q (o.below x i b.0) b.0 b.1)));
       })
 
   over-distances : WellMade l → Distances l w a

@@ -1,6 +1,6 @@
 -- The small line and its variants, by computation. Assumes nothing.
 use Rattle.std.proofs.Common.{◌≡◌, ℕ, ◌<◌, ◌≤◌, Bool, true, false, cond, ◌&&◌, eqb, ltb, leb, List, [], ◌∷◌, ◌++◌, Some, None, sym, refl, ap, ◌∙◌, subst, inl, inr, arith, lit<}
-use Rattle.std.proofs.lemmas.Bool.{and_parts, or_cases, cases_Bool, ltb-true, leb-true, eqb-true, ne_eqb}
+use Rattle.std.proofs.lemmas.Bool.{and_parts, or_cases, false_from_ne_true, cases_Bool, ltb-true, leb-true, eqb-true, ne_eqb}
 use Rattle.model.specs.Generators.{Gen, WellFormed}
 use Rattle.model.specs.Numbers.{all}
 use Rattle.model.specs.Charts.{EventChart, WellCharted, is_high, owns_request, owns_answer}
@@ -9,6 +9,7 @@ use Rattle.model.specs.declared.next.Next.{Next}
 use Rattle.model.specs.declared.next.Next.TheVariants.{Foreign, Forbidden, To}
 use Rattle.model.specs.declared.fault.Fault.{Fault}
 use Rattle.model.specs.declared.fault.Fault.TheVariants.{Alphabet, Point}
+use Rattle.model.specs.declared.fault.Point.TheVariants as point
 use Rattle.model.proofs.Finds.{never, all-at}
 use Rattle.hisc.specs.Lines.{Line, WellMade, high, low, possible, marked}
 use Rattle.hisc.specs.Sizes.{size, code, largest_low, enough}
@@ -26,9 +27,9 @@ use Rattle.hisc.proofs.Decide.{every, test, right, all_right, alphabet-witness, 
 every-member : (p : ℕ → Bool) (ms : List ℕ) → every p ms ≡ true → (n : ℕ) → member ms n ≡ true → p n ≡ true
 every-member p [] h n t = never t refl
 every-member p (m ∷ ms) h n t =
-    let r = and_parts (p m) (every p ms) h in
+    let r = and_parts _ _ h in
     elim (or_cases (eqb m n) (member ms n) t) [
-      | inl e ↦ subst (λ (i : ℕ). p i ≡ true) (eqb-true m n e) r.0
+      | inl e ↦ subst (λ (i : ℕ). p i ≡ true) (eqb-true _ _ e) r.0
       | inr u ↦ every-member p ms r.1 n u
     ]
 
@@ -49,9 +50,9 @@ not-foreign (m ∷ ms) s e = go (eqb m.from s && eqb m.event e) (not-foreign ms 
     go false h = h
 
 next-within : (n : ℕ) (ms : List Move) → every (within n) ms ≡ true → (s e t : ℕ) → next_by ms s e ≡ To t → t < n
-next-within n [] h s e t q = absurd (let z : ◌≡◌ {A = ℕ} 0 1 = cc in omega arith)
+next-within n [] h s e t q = absurd cc
 next-within n (m ∷ ms) h s e t q =
-    let r = and_parts (within n m) (every (within n) ms) h in
+    let r = and_parts _ _ h in
     go (eqb m.from s && eqb m.event e) r.0 (next-within n ms r.1 s e t) q
   where
     go : (b : Bool) → within n m ≡ true → (next_by ms s e ≡ To t → t < n) → cond b (To m.to) (next_by ms s e) ≡ To t → t < n
@@ -61,8 +62,8 @@ next-within n (m ∷ ms) h s e t q =
 next-beyond : (n : ℕ) (ms : List Move) → every (within n) ms ≡ true → (s e : ℕ) → n ≤ s → next_by ms s e ≡ Forbidden
 next-beyond n [] h s e ge = refl
 next-beyond n (m ∷ ms) h s e ge =
-    let r = and_parts (within n m) (every (within n) ms) h in
-    let lt : m.from < n = ltb-true m.from n (and_parts (ltb m.from n) (ltb m.to n) r.0).0 in
+    let r = and_parts _ _ h in
+    let lt : m.from < n = ltb-true _ _ (and_parts _ _ r.0).0 in
     ap (λ (b : Bool). cond (b && eqb m.event e) (To m.to) (next_by ms s e)) (ne_eqb m.from s (omega arith)) ∙ next-beyond n ms r.1 s e ge
 
 abbrev sound : ℕ → List ℕ → List ℕ → List Move → Bool
@@ -70,35 +71,33 @@ sound n known marks moves = (leb 1 n && leb n 4096) && (every (λ e. ltb e 64) k
 
 formed : (n : ℕ) (known marks : List ℕ) (moves : List Move) → sound n known marks moves ≡ true → WellFormed (generator n known marks moves)
 formed n known marks moves t =
-    let p = and_parts (leb 1 n && leb n 4096) (every (λ e. ltb e 64) known && (every (λ s. ltb s n) marks && every (within n) moves)) t in
-    let c = and_parts (leb 1 n) (leb n 4096) p.0 in
-    let q = and_parts (every (λ e. ltb e 64) known) (every (λ s. ltb s n) marks && every (within n) moves) p.1 in
-    let r = and_parts (every (λ s. ltb s n) marks) (every (within n) moves) q.1 in
+    let p = and_parts _ _ t in
+    let c = and_parts _ _ p.0 in
+    let q = and_parts _ _ p.1 in
+    let r = and_parts _ _ q.1 in
     record {
-      some = leb-true 1 n c.0;
-      few = leb-true n 4096 c.1;
-      begins = omega (arith, leb-true 1 n c.0);
-      events = λ e k. ltb-true e 64 (every-member (λ e. ltb e 64) known q.0 e k);
-      marks = λ s m. ltb-true s n (every-member (λ s. ltb s n) marks r.0 s m);
+      some = leb-true _ _ c.0;
+      few = leb-true _ _ c.1;
+      begins = omega (arith, leb-true _ _ c.0);
+      events = λ e k. ltb-true _ _ (every-member (λ e. ltb e 64) known q.0 e k);
+      marks = λ s m. ltb-true _ _ (every-member (λ s. ltb s n) marks r.0 s m);
       foreign = λ s e u. ap (λ (b : Bool). cond b (next_by moves s e) Foreign) u;
-      known = λ s e f. elim (cases_Bool (member known e)) [
-        | inl k ↦ never (ap is_foreign f) (ap (λ (b : Bool). is_foreign (cond b (next_by moves s e) Foreign)) k ∙ not-foreign moves s e)
-        | inr u ↦ u
-      ];
+      known = λ s e f. false_from_ne_true (member known e) (λ k.
+          never (ap is_foreign f) (ap (λ (b : Bool). is_foreign (cond b (next_by moves s e) Foreign)) k ∙ not-foreign moves s e));
       inside = λ s e t q. elim (cases_Bool (member known e)) [
         | inl k ↦ next-within n moves r.1 s e t (sym (ap (λ (b : Bool). cond b (next_by moves s e) Foreign) k) ∙ q)
-        | inr u ↦ absurd (let f : Foreign ≡ To t = sym (ap (λ (b : Bool). cond b (next_by moves s e) Foreign) u) ∙ q in let z : ◌≡◌ {A = ℕ} 0 1 = cc in omega arith)
+        | inr u ↦ absurd (let f : Foreign ≡ To t = sym (ap (λ (b : Bool). cond b (next_by moves s e) Foreign) u) ∙ q in cc)
       ];
       beyond = λ s e k ge. ap (λ (b : Bool). cond b (next_by moves s e) Foreign) k ∙ next-beyond n moves r.1 s e ge;
     }
 
 -- a chart of one level, by computation
-abbrev sound_chart : EventChart → Bool
+abbrev pub sound_chart : EventChart → Bool
 sound_chart k =
     ((eqb k.levels 1 && (leb 1 k.events && leb k.events 64)) && (owns_request k 1 && owns_answer k 1)) &&
     all k.events (λ e. cond (is_high (k.kind e)) (eqb (k.owner e) 0) (eqb (k.owner e) 1))
 
-one-level : (k : EventChart) → sound_chart k ≡ true → WellCharted k
+pub one-level : (k : EventChart) → sound_chart k ≡ true → WellCharted k
 one-level k t =
     let p = and_parts ((eqb k.levels 1 && (leb 1 k.events && leb k.events 64)) && (owns_request k 1 && owns_answer k 1))
     (all k.events (λ e. cond (is_high (k.kind e)) (eqb (k.owner e) 0) (eqb (k.owner e) 1))) t in
@@ -106,17 +105,17 @@ one-level k t =
     let r = and_parts (eqb k.levels 1) (leb 1 k.events && leb k.events 64) q.0 in
     let b = and_parts (leb 1 k.events) (leb k.events 64) r.1 in
     let o = and_parts (owns_request k 1) (owns_answer k 1) q.1 in
-    let n : k.levels ≡ 1 = eqb-true k.levels 1 r.0 in
+    let n : k.levels ≡ 1 = eqb-true _ _ r.0 in
     let owned : (e : ℕ) → e < k.events → cond (is_high (k.kind e)) (eqb (k.owner e) 0) (eqb (k.owner e) 1) ≡ true =
-    all-at k.events (λ e. cond (is_high (k.kind e)) (eqb (k.owner e) 0) (eqb (k.owner e) 1)) p.1 in
+    all-at _ _ p.1 in
     record {
       some_level = omega arith;
       few_levels = omega arith;
-      some_event = leb-true 1 k.events b.0;
-      few_events = leb-true k.events 64 b.1;
-      high_owner = λ e lt h. eqb-true (k.owner e) 0 (subst (λ (b : Bool). cond b (eqb (k.owner e) 0) (eqb (k.owner e) 1) ≡ true) h (owned e lt));
+      some_event = leb-true _ _ b.0;
+      few_events = leb-true _ _ b.1;
+      high_owner = λ e lt h. eqb-true _ _ (subst (λ (b : Bool). cond b (eqb (k.owner e) 0) (eqb (k.owner e) 1) ≡ true) h (owned e lt));
       low_owner = λ e lt h.
-          let z = eqb-true (k.owner e) 1 (subst (λ (b : Bool). cond b (eqb (k.owner e) 0) (eqb (k.owner e) 1) ≡ true) h (owned e lt)) in
+          let z = eqb-true _ _ (subst (λ (b : Bool). cond b (eqb (k.owner e) 0) (eqb (k.owner e) 1) ≡ true) h (owned e lt)) in
           (omega arith, omega arith);
       requests = λ j v. let z : 1 ≡ j = omega (arith, v, n) in subst (λ (i : ℕ). owns_request k i ≡ true) z o.0;
       answers = λ j v. let z : 1 ≡ j = omega (arith, v, n) in subst (λ (i : ℕ). owns_answer k i ≡ true) z o.1;
@@ -128,8 +127,8 @@ charted = one-level small_chart refl
 idle-formed : (known : List ℕ) → sound 1 known (0 ∷ []) (loops known) ≡ true → WellFormed (idle known)
 idle-formed known t = formed 1 known (0 ∷ []) (loops known) t
 
-made : (top bottom between : Gen) → WellFormed top → WellFormed bottom → WellFormed between → WellMade (line_with top bottom between)
-made top bottom between a b c =
+made : {top bottom between : Gen} → WellFormed top → WellFormed bottom → WellFormed between → WellMade (line_with top bottom between)
+made {top = top} {bottom = bottom} {between = between} a b c =
     well-made small_chart (top ∷ idle (0 ∷ 1 ∷ 2 ∷ []) ∷ bottom ∷ idle (1 ∷ 2 ∷ 3 ∷ []) ∷ between ∷ []) charted
     (a, (idle-formed (0 ∷ 1 ∷ 2 ∷ []) refl, (b, (idle-formed (1 ∷ 2 ∷ 3 ∷ []) refl, (c, tt))))) refl
 
@@ -143,31 +142,31 @@ between-formed : WellFormed small_interface
 between-formed = formed 2 (1 ∷ 2 ∷ []) (0 ∷ []) (move 0 1 1 ∷ move 1 2 0 ∷ []) refl
 
 small-made : WellMade small_line
-small-made = made small_high_plant small_plant small_interface top-formed plant-formed between-formed
+small-made = made top-formed plant-formed between-formed
 
 -- words to every reached state of the walks
-abbrev high_words : List (List ℕ)
+abbrev pub high_words : List (List ℕ)
 high_words = [] ∷ (0 ∷ []) ∷ (0 ∷ 1 ∷ []) ∷ []
 
-abbrev low_words : ℕ → List (List ℕ)
+abbrev pub low_words : ℕ → List (List ℕ)
 low_words j = [] ∷ (1 ∷ []) ∷ (1 ∷ 3 ∷ []) ∷ []
 
-abbrev alone_words : ℕ → List (List ℕ)
+abbrev pub alone_words : ℕ → List (List ℕ)
 alone_words j = [] ∷ (1 ∷ []) ∷ []
 
 -- a line of one level whose walks fit, over a bank of five components
-abbrev sized : Line → Bool
+abbrev pub sized : Line → Bool
 sized l = eqb l.chart.levels 1 && (leb (size l (low l 1)) 4096 && leb (size l (high l)) 4096)
 
-sizes : (l : Line) → sized l ≡ true → SizesFit l 5
+pub sizes : (l : Line) → sized l ≡ true → SizesFit l 5
 sizes l t =
     let p = and_parts (eqb l.chart.levels 1) (leb (size l (low l 1)) 4096 && leb (size l (high l)) 4096) t in
     let q = and_parts (leb (size l (low l 1)) 4096) (leb (size l (high l)) 4096) p.1 in
-    let n : l.chart.levels ≡ 1 = eqb-true l.chart.levels 1 p.0 in
+    let n : l.chart.levels ≡ 1 = eqb-true _ _ p.0 in
     record {
       complete = omega arith;
-      lows = λ j v. let z : 1 ≡ j = omega (arith, v, n) in subst (λ (i : ℕ). size l (low l i) ≤ 4096) z (leb-true (size l (low l 1)) 4096 q.0);
-      top = leb-true (size l (high l)) 4096 q.1;
+      lows = λ j v. let z : 1 ≡ j = omega (arith, v, n) in subst (λ (i : ℕ). size l (low l i) ≤ 4096) z (leb-true _ _ q.0);
+      top = leb-true _ _ q.1;
     }
 
 small-tests : every (test small_line small-made high_words low_words alone_words) (tests small_line) ≡ true
@@ -243,72 +242,66 @@ choice-passes = record {
 }
 
 -- the lines that are refused
-refused-with : (l : Line) (f : Fault) → WellMade l → FirstFault l f → sized l ≡ true → enough l (cells_of 12) ≡ true → RefusedWith l f
-refused-with l f m q s c = record {
+refused-with : {l : Line} {f : Fault} → WellMade l → FirstFault l f → sized l ≡ true → enough l (cells_of 12) ≡ true → RefusedWith l f
+refused-with {l = l} {f = f} m q s c = record {
   made = m;
   lacks = λ p. all-not l (tests l) f ((tests-points l).no_more p) q;
   answer = faulty (sizes l s) c q;
 }
 
 -- the tests of point 1, and those of the level after point 5 and point 6
-abbrev alphabets : List Test
+abbrev pub alphabets : List Test
 alphabets = alphabet_known 0 ∷ alphabet_known 1 ∷ alphabet_known 2 ∷ alphabet_known 3 ∷ alphabet_known 4 ∷ []
 
-abbrev high_tests : List Test
+abbrev pub high_tests : List Test
 high_tests = answers_accepted ∷ high_nonblocking ∷ high_controllable ∷ []
 
-abbrev after_five : List Test
+abbrev pub after_five : List Test
 after_five = rest_reachable 1 ∷ low_nonblocking 1 ∷ low_controllable 1 ∷ high_tests
 
-abbrev to_six : List Test
+abbrev pub to_six : List Test
 to_six = command_pair 1 ∷ requests_accepted 1 ∷ answers_reachable 1 ∷ []
 
-abbrev after_six : List Test
+abbrev pub after_six : List Test
 after_six = low_nonblocking 1 ∷ low_controllable 1 ∷ high_tests
 
 start-made : WellMade unmarked_start_line
-start-made = made small_high_plant small_plant (generator 2 (1 ∷ 2 ∷ []) (1 ∷ []) (move 0 1 1 ∷ move 1 2 0 ∷ [])) top-formed plant-formed (formed 2 (1 ∷ 2 ∷ []) (1 ∷ []) (move 0 1 1 ∷ move 1 2 0 ∷ []) refl)
+start-made = made top-formed plant-formed (formed 2 (1 ∷ 2 ∷ []) (1 ∷ []) (move 0 1 1 ∷ move 1 2 0 ∷ []) refl)
 
-start-fault : FirstFault unmarked_start_line (Point 2 1 0 None)
+start-fault : FirstFault unmarked_start_line (Point point.CommandPair 1 0 None)
 unfolding possible marked size code
 start-fault =
     first-failing unmarked_start_line start-made high_words low_words alone_words alphabets (command_pair 1)
     (requests_accepted 1 ∷ answers_reachable 1 ∷ after_five) 0 None refl (start-witness unmarked_start_line start-made high_words low_words alone_words 1 refl)
 
 lost-made : WellMade lost_answer_line
-lost-made =
-    made small_high_plant (generator 3 (1 ∷ 2 ∷ 3 ∷ []) (0 ∷ []) (move 0 1 1 ∷ move 2 2 0 ∷ [])) small_interface top-formed
-    (formed 3 (1 ∷ 2 ∷ 3 ∷ []) (0 ∷ []) (move 0 1 1 ∷ move 2 2 0 ∷ []) refl) between-formed
+lost-made = made top-formed (formed 3 (1 ∷ 2 ∷ 3 ∷ []) (0 ∷ []) (move 0 1 1 ∷ move 2 2 0 ∷ []) refl) between-formed
 
-lost-words : ℕ → List (List ℕ)
-lost-words j = [] ∷ (1 ∷ []) ∷ []
+abbrev pub lost_words : ℕ → List (List ℕ)
+lost_words j = [] ∷ (1 ∷ []) ∷ []
 
-lost-fault : FirstFault lost_answer_line (Point 5 1 4 (Some 2))
-unfolding possible marked size code lost-words
+lost-fault : FirstFault lost_answer_line (Point point.AnswersReachable 1 4 (Some 2))
+unfolding possible marked size code
 lost-fault =
-    first-failing lost_answer_line lost-made high_words lost-words alone_words (alphabets ++ (command_pair 1 ∷ requests_accepted 1 ∷ [])) (answers_reachable 1) after_five 4 (Some 2) refl
-    (answer-witness lost_answer_line lost-made high_words lost-words alone_words 1 4 2 [] 1 refl refl refl refl refl refl refl refl)
+    first-failing lost_answer_line lost-made high_words lost_words alone_words (alphabets ++ (command_pair 1 ∷ requests_accepted 1 ∷ [])) (answers_reachable 1) after_five 4 (Some 2) refl
+    (answer-witness lost_answer_line lost-made high_words lost_words alone_words 1 4 2 [] 1 refl refl refl refl refl refl refl refl)
 
 unmarked-made : WellMade unmarked_plant_line
-unmarked-made =
-    made small_high_plant (generator 3 (1 ∷ 2 ∷ 3 ∷ []) [] (move 0 1 1 ∷ move 1 3 2 ∷ move 2 2 0 ∷ [])) small_interface top-formed
-    (formed 3 (1 ∷ 2 ∷ 3 ∷ []) [] (move 0 1 1 ∷ move 1 3 2 ∷ move 2 2 0 ∷ []) refl) between-formed
+unmarked-made = made top-formed (formed 3 (1 ∷ 2 ∷ 3 ∷ []) [] (move 0 1 1 ∷ move 1 3 2 ∷ move 2 2 0 ∷ []) refl) between-formed
 
-unmarked-fault : FirstFault unmarked_plant_line (Point 6 1 0 None)
+unmarked-fault : FirstFault unmarked_plant_line (Point point.RestReachable 1 0 None)
 unfolding possible marked size code
 unmarked-fault =
     first-failing unmarked_plant_line unmarked-made high_words low_words alone_words (alphabets ++ to_six) (rest_reachable 1) after_six 0 None refl
     (rest-witness unmarked_plant_line unmarked-made high_words low_words alone_words 1 0 [] (omega arith, omega arith) refl refl refl refl refl)
 
 rest-made : WellMade rest_by_request_line
-rest-made =
-    made small_high_plant (generator 6 (1 ∷ 2 ∷ 3 ∷ []) (0 ∷ []) (move 0 1 1 ∷ move 1 3 2 ∷ move 2 2 3 ∷ move 3 1 4 ∷ move 4 3 5 ∷ move 5 2 0 ∷ [])) small_interface top-formed
-    (formed 6 (1 ∷ 2 ∷ 3 ∷ []) (0 ∷ []) (move 0 1 1 ∷ move 1 3 2 ∷ move 2 2 3 ∷ move 3 1 4 ∷ move 4 3 5 ∷ move 5 2 0 ∷ []) refl) between-formed
+rest-made = made top-formed (formed 6 (1 ∷ 2 ∷ 3 ∷ []) (0 ∷ []) (move 0 1 1 ∷ move 1 3 2 ∷ move 2 2 3 ∷ move 3 1 4 ∷ move 4 3 5 ∷ move 5 2 0 ∷ []) refl) between-formed
 
 rest-words : ℕ → List (List ℕ)
 rest-words j = [] ∷ (1 ∷ []) ∷ (1 ∷ 3 ∷ []) ∷ (1 ∷ 3 ∷ 2 ∷ []) ∷ (1 ∷ 3 ∷ 2 ∷ 1 ∷ []) ∷ (1 ∷ 3 ∷ 2 ∷ 1 ∷ 3 ∷ []) ∷ []
 
-rest-fault : FirstFault rest_by_request_line (Point 6 1 3 None)
+rest-fault : FirstFault rest_by_request_line (Point point.RestReachable 1 3 None)
 unfolding possible marked size code rest-words
 rest-fault =
     first-failing rest_by_request_line rest-made high_words rest-words alone_words (alphabets ++ to_six) (rest_reachable 1) after_six 3 None refl
@@ -319,7 +312,7 @@ unfolding possible marked size code rest-words
 rest-nonblocking = refl
 
 wrong-made : WellMade wrong_answer_line
-wrong-made = made small_high_plant small_plant (generator 2 (1 ∷ 3 ∷ []) (0 ∷ []) (move 0 1 1 ∷ move 1 3 0 ∷ [])) top-formed plant-formed (formed 2 (1 ∷ 3 ∷ []) (0 ∷ []) (move 0 1 1 ∷ move 1 3 0 ∷ []) refl)
+wrong-made = made top-formed plant-formed (formed 2 (1 ∷ 3 ∷ []) (0 ∷ []) (move 0 1 1 ∷ move 1 3 0 ∷ []) refl)
 
 wrong-fault : FirstFault wrong_answer_line (Alphabet 1 4 2)
 wrong-fault =
@@ -327,9 +320,7 @@ wrong-fault =
     (to_six ++ after_five) 0 (Some 2) refl (alphabet-witness wrong_answer_line wrong-made high_words low_words alone_words 4 2 refl refl)
 
 stray-made : WellMade stray_event_line
-stray-made =
-    made (generator 3 (0 ∷ 1 ∷ 2 ∷ 63 ∷ []) (0 ∷ []) (move 0 0 1 ∷ move 1 1 2 ∷ move 2 2 0 ∷ [])) small_plant small_interface
-    (formed 3 (0 ∷ 1 ∷ 2 ∷ 63 ∷ []) (0 ∷ []) (move 0 0 1 ∷ move 1 1 2 ∷ move 2 2 0 ∷ []) refl) plant-formed between-formed
+stray-made = made (formed 3 (0 ∷ 1 ∷ 2 ∷ 63 ∷ []) (0 ∷ []) (move 0 0 1 ∷ move 1 1 2 ∷ move 2 2 0 ∷ []) refl) plant-formed between-formed
 
 stray-fault : FirstFault stray_event_line (Alphabet 0 0 63)
 stray-fault =
@@ -338,20 +329,18 @@ stray-fault =
     (alphabet-witness stray_event_line stray-made high_words low_words alone_words 0 63 refl refl)
 
 large-made : WellMade too_large_line
-large-made =
-    made small_high_plant (generator 4096 (1 ∷ 2 ∷ 3 ∷ []) (0 ∷ []) (move 0 1 1 ∷ move 1 3 2 ∷ move 2 2 0 ∷ [])) small_interface top-formed
-    (formed 4096 (1 ∷ 2 ∷ 3 ∷ []) (0 ∷ []) (move 0 1 1 ∷ move 1 3 2 ∷ move 2 2 0 ∷ []) refl) between-formed
+large-made = made top-formed (formed 4096 (1 ∷ 2 ∷ 3 ∷ []) (0 ∷ []) (move 0 1 1 ∷ move 1 3 2 ∷ move 2 2 0 ∷ []) refl) between-formed
 
 pub lines-refused : LinesRefused
 unfolding size largest_low rest-words
 lines-refused = record {
-  unmarked_start = refused-with unmarked_start_line (Point 2 1 0 None) start-made start-fault refl refl;
-  lost_answer = refused-with lost_answer_line (Point 5 1 4 (Some 2)) lost-made lost-fault refl refl;
-  unmarked_plant = refused-with unmarked_plant_line (Point 6 1 0 None) unmarked-made unmarked-fault refl refl;
-  rest_by_request = refused-with rest_by_request_line (Point 6 1 3 None) rest-made rest-fault refl refl;
+  unmarked_start = refused-with start-made start-fault refl refl;
+  lost_answer = refused-with lost-made lost-fault refl refl;
+  unmarked_plant = refused-with unmarked-made unmarked-fault refl refl;
+  rest_by_request = refused-with rest-made rest-fault refl refl;
   rest_by_request_nonblocking = right rest_by_request_line rest-made high_words rest-words alone_words (low_nonblocking 1) rest-nonblocking;
-  wrong_answer = refused-with wrong_answer_line (Alphabet 1 4 2) wrong-made wrong-fault refl refl;
-  stray_event = refused-with stray_event_line (Alphabet 0 0 63) stray-made stray-fault refl refl;
+  wrong_answer = refused-with wrong-made wrong-fault refl refl;
+  stray_event = refused-with stray-made stray-fault refl refl;
   too_large = large-made;
   too_large_answer = λ cells. oversize refl (low_walk (omega arith, omega arith) (λ i a b. absurd (omega arith)) (lit< tt));
 }

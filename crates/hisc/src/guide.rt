@@ -2,6 +2,7 @@
 ghost use Rattle.std.specs.Prelude.{◌≡◌};
 ghost use Rattle.hisc.specs.Sizes.{bound_of};
 
+// An answer has no event in two ways, so it is no Option.
 #[derive(Clone, Copy, PartialEq, Eq, Debug)]
 pub enum Guidance {
     // every component is marked

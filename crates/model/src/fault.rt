@@ -1,6 +1,6 @@
 // Every refusal of the library, and the seven fields by which it is reported.
-ghost use Rattle.std.specs.Prelude.{◌≡◌};
-ghost use Rattle.model.specs.Faults.{fields, fields_of, letter_of, or_unused};
+ghost use Rattle.std.specs.Prelude.{◌≡◌, Some};
+ghost use Rattle.model.specs.Faults.{fields, fields_of, letter_of, text_of};
 ghost use Rattle.model.specs.declared.fault.Layer.TheVariants.{Check as CheckLayer};
 
 use std::fmt;
@@ -14,18 +14,41 @@ pub enum Layer {
     Run,
 }
 
-impl Layer {
-    // The letter by which the layer is written.
-    pub fn letter(self) -> char
-        ensures { result ≡ letter_of self }
-    {
-        match self {
+// The letter by which the layer is written.
+impl From<Layer> for char {
+    ghost from_gives = { λ layer letter. letter ≡ letter_of layer };
+
+    fn from(layer: Layer) -> char {
+        match layer {
             Layer::File => 'F',
             Layer::Body => 'B',
             Layer::Check => 'C',
             Layer::Run => 'R',
         }
     }
+}
+
+// The points that fail at a state of a walk, by their place among the ten; the first has no state.
+#[derive(Clone, Copy, PartialEq, Eq, Debug)]
+pub enum Point {
+    // the interface is no command-pair interface
+    CommandPair = 2,
+    // an answer that its interface permits is not accepted above
+    AnswersAccepted = 3,
+    // a request that the interface permits is not accepted below
+    RequestsAccepted = 4,
+    // after a request, an answer that the interface permits cannot be reached
+    AnswersReachable = 5,
+    // with the interface marked, plant and supervisor cannot come to rest
+    RestReachable = 6,
+    // no word leads to the low walk's components all marked
+    LowNonblocking = 7,
+    // no word leads to the high walk's components all marked
+    HighNonblocking = 8,
+    // supervisor or interface forbids an uncontrollable event that the plant permits
+    LowControllable = 9,
+    // the high supervisor forbids one that the high plant permits and no interface forbids
+    HighControllable = 10,
 }
 
 #[derive(Clone, Copy, PartialEq, Eq, Debug)]
@@ -69,7 +92,7 @@ pub enum Fault {
     },
     // points 2 to 10: the point fails at the walk's state with this code
     Point {
-        point: u8,
+        point: Point,
         level: u8,
         state: u16,
         event: Option<u8>,
@@ -87,7 +110,7 @@ pub enum Fault {
     PossibleSlice,
 }
 
-// The seven fields of a fault; one that it does not use is 255.
+// The seven fields of a fault, as they are reported: a number each but the layer, and 255 for one that the fault does not use.
 #[derive(Clone, Copy, PartialEq, Eq, Debug)]
 pub struct Fields {
     pub number: u8,
@@ -101,16 +124,7 @@ pub struct Fields {
 
 pub const UNUSED: u8 = 255;
 
-// The number, or 255 where there is none.
-fn or_unused(number: Option<u8>) -> u8
-    ensures { result ≡ or_unused number }
-{
-    match number {
-        Some(n) => n,
-        None => UNUSED,
-    }
-}
-
+// With these each case of `fields` is a line; by `..` alone it would pass the forty that a function may have.
 impl Fields {
     // A fault of the number and layer, with no other field.
     fn new(number: u8, layer: Layer) -> Fields
@@ -128,25 +142,25 @@ impl Fields {
     }
 
     fn level(self, level: u8) -> Fields
-        ensures { result ≡ fields self.number self.layer self.point level self.component self.place self.event }
+        ensures { result ≡ record self { level = level } }
     {
         Fields { level, ..self }
     }
 
     fn component(self, component: u8) -> Fields
-        ensures { result ≡ fields self.number self.layer self.point self.level component self.place self.event }
+        ensures { result ≡ record self { component = component } }
     {
         Fields { component, ..self }
     }
 
     fn place(self, place: u32) -> Fields
-        ensures { result ≡ fields self.number self.layer self.point self.level self.component place self.event }
+        ensures { result ≡ record self { place = place } }
     {
         Fields { place, ..self }
     }
 
     fn event(self, event: u8) -> Fields
-        ensures { result ≡ fields self.number self.layer self.point self.level self.component self.place event }
+        ensures { result ≡ record self { event = event } }
     {
         Fields { event, ..self }
     }
@@ -174,7 +188,7 @@ impl Fault {
             Fault::Level { level } => Fields::new(4, Layer::File).level(level),
             Fault::Body { component, place } => {
                 Fields::new(5, Layer::Body)
-                    .component(or_unused(component))
+                    .component(component.unwrap_or(UNUSED))
                     .place(place)
             }
             Fault::Components => Fields::new(11, Layer::Check),
@@ -191,9 +205,9 @@ impl Fault {
                 state,
                 event,
             } => {
-                Fields::failed(point, level)
+                Fields::failed(point as u8, level)
                     .place(u32::from(state))
-                    .event(or_unused(event))
+                    .event(event.unwrap_or(UNUSED))
             }
             Fault::EventNumber { event } => Fields::new(21, Layer::Run).event(event),
             Fault::Refused { component, event } => Fields::new(22, Layer::Run)
@@ -206,6 +220,8 @@ impl Fault {
 
 // The seven fields, with single spaces between.
 impl fmt::Display for Fault {
+    ghost output = { λ fault. Some (text_of (fields_of fault)) };
+
     fn fmt<W: fmt::Write>(&self, f: &mut fmt::Formatter<W>) -> fmt::Result {
         let Fields {
             number,
@@ -216,7 +232,7 @@ impl fmt::Display for Fault {
             place,
             event,
         } = self.fields();
-        let letter = layer.letter();
+        let letter = char::from(layer);
         write!(
             f,
             "{number} {letter} {point} {level} {component} {place} {event}"

@@ -1,12 +1,11 @@
 -- The line that the small file means, and the lines of its damaged copies. Assumes nothing.
-use Rattle.std.proofs.Common.{◌≡◌, ℕ, ◌+◌, ◌*◌, ◌<◌, Bool, true, cond, not, ◌&&◌, eqb, ltb, List, [], ◌∷◌, get_or, take, set, Some, Ok, Err, refl, subst, arith}
-use Rattle.std.proofs.lemmas.Bool.{and_parts, ltb-true, eqb-true}
-use Rattle.model.specs.Charts.{EventChart, WellCharted, is_high, is_low, in_high, in_level, owns_request, owns_answer}
+use Rattle.std.proofs.Common.{◌≡◌, ℕ, ◌+◌, ◌*◌, ◌<◌, Bool, true, cond, not, ◌&&◌, eqb, ltb, List, [], ◌∷◌, get_or, take, set, Some, Ok, Err, refl, arith}
+use Rattle.std.proofs.lemmas.Bool.{and_parts, ltb-true}
+use Rattle.model.specs.Charts.{EventChart, WellCharted, is_low, in_high, in_level}
 use Rattle.model.specs.Generators.{WellFormed}
 use Rattle.model.specs.Readings.{first_off}
 use Rattle.model.specs.declared.kind.Kind.TheVariants.{Low}
 use Rattle.model.specs.declared.fault.Fault.TheVariants.{Header, Contents, Body}
-use Rattle.model.proofs.Finds.{all-at}
 use Rattle.generators.specs.Selfloops.{looped}
 use Rattle.generators.specs.Formed.{looped-formed}
 use Rattle.charts.specs.Rows.{kind_of, byte_fits, first_wrong, chart_in, lacking, rows_reading}
@@ -18,6 +17,7 @@ use Rattle.linefile.specs.Layout.{contents_reading}
 use Rattle.linefile.specs.File.{chart_reading, bank_reading}
 use Rattle.hisc.specs.Lines.{WellMade}
 use Rattle.hisc.proofs.Made.{well-made}
+use Rattle.hisc.proofs.SmallLine.{one-level}
 use Rattle.verdicts.specs.Verdicts.{FileLine, the_line, line_reading}
 use Rattle.verdicts.specs.Worked.{small_file}
 
@@ -110,23 +110,8 @@ unfolding chart_reading bank_reading contents_reading rows_reading first_wrong b
 no-states-unread = refl
 
 -- the chart keeps its rules, and the components are generators
-owned : (e : ℕ) → e < 4 → cond (is_high (file_chart.kind e)) (eqb (file_chart.owner e) 0) (eqb (file_chart.owner e) 1) ≡ true
-owned e lt = all-at 4 (λ e. cond (is_high (file_chart.kind e)) (eqb (file_chart.owner e) 0) (eqb (file_chart.owner e) 1)) refl e lt
-
 charted : WellCharted file_chart
-charted = record {
-  some_level = omega arith;
-  few_levels = omega arith;
-  some_event = omega arith;
-  few_events = omega arith;
-  high_owner = λ e lt h.
-      eqb-true (file_chart.owner e) 0 (subst (λ (b : Bool). cond b (eqb (file_chart.owner e) 0) (eqb (file_chart.owner e) 1) ≡ true) h (owned e lt));
-  low_owner = λ e lt h.
-      let z = eqb-true (file_chart.owner e) 1 (subst (λ (b : Bool). cond b (eqb (file_chart.owner e) 0) (eqb (file_chart.owner e) 1) ≡ true) h (owned e lt)) in
-      (omega arith, omega arith);
-  requests = λ j v. let z : 1 ≡ j = omega (arith, v) in subst (λ (i : ℕ). owns_request file_chart i ≡ true) z refl;
-  answers = λ j v. let z : 1 ≡ j = omega (arith, v) in subst (λ (i : ℕ). owns_answer file_chart i ≡ true) z refl;
-}
+charted = one-level file_chart refl
 
 small-event : (e : ℕ) (b : Bool) → (ltb e 4 && b) ≡ true → e < 64
 small-event e b h = omega (arith, ltb-true e 4 (and_parts (ltb e 4) b h).0)
