@@ -1,5 +1,5 @@
 // Sets of events, one bit of a 64-bit word for each event.
-ghost use Rattle.std.specs.Prelude.{◌≡◌, ℕ, ◌&&◌, ◌||◌, ◌==◌, nat_lt};
+ghost use Rattle.std.specs.Prelude.{◌≡◌, ℕ, not, ◌&&◌, ◌||◌, ◌==◌, nat_lt};
 ghost use Rattle.model.specs.Sets.{member};
 
 #[derive(Clone, Copy, PartialEq, Eq, Debug)]
@@ -42,6 +42,15 @@ impl EventSet {
     {
         EventSet {
             word: self.word & other.word,
+        }
+    }
+
+    // The events of this set that the other lacks.
+    pub fn difference(self, other: EventSet) -> EventSet
+        ensures { (k : ℕ) → member result.word k ≡ (member self.word k && not (member other.word k)) }
+    {
+        EventSet {
+            word: self.word & !other.word,
         }
     }
 }
