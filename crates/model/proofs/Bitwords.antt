@@ -3,12 +3,17 @@ use Rattle.std.proofs.Common.{◌≡◌, ℕ, ◌-◌, ◌*◌, ◌/◌, ◌%◌
 use lib.Bits.{bit_and, bit_or}
 use Rattle.std.proofs.Common.{w64}
 use Rattle.std.proofs.lemmas.Bool.Decides.{nat_tests}
-use Rattle.std.proofs.lemmas.Nat.Bits.{bit_at-zero, bit_at-lt, bit_at_and, bit_at_or, bit_at_not, bit_at_set_same, bit_at_set_other, shr_and_one}
+use Rattle.std.proofs.lemmas.Nat.Bits.{same_from_bits_below, bit_at-zero, bit_at-lt, bit_at_and, bit_at_or, bit_at_not, bit_at_set_same, bit_at_set_other, shr_and_one}
 use Rattle.model.specs.Sets.{bit, member}
 
 pub member-zero : (e : ℕ) → member 0 e ≡ false
 unfolding bit
 member-zero e = grind (arith, nat_tests, bit_at-zero e)
+
+-- a word with no member is 0
+pub none-zero : (w : ℕ) → w < 2 ^ 64 → ((e : ℕ) → member w e ≡ false) → w ≡ 0
+unfolding bit
+none-zero w h none = same_from_bits_below 64 w 0 h (omega arith) (λ i l. grind (arith, nat_tests, none i, bit_at-zero i, bit_at-lt w i))
 
 pub member-test : (w e : ℕ) → e < 64 → eqb (bit_and (w / 2 ^ e) 1) 1 ≡ member w e
 unfolding bit
