@@ -1,20 +1,18 @@
 -- The lowest level that lacks a request or an answer. Assumes nothing.
-use Rattle.std.proofs.Common.{◌≡◌, ℕ, suc, ◌-◌, ◌^◌, ◌<◌, ◌≤◌, Bool, true, false, not, ◌&&◌, eqb, ltb, ◌≢◌, ◌⊎◌, get_or, Ok, Err, sym, refl, ap, ◌∙◌, ap₂, inl, inr, arith}
-use lib.Bits.{bit_and}
-use Rattle.std.proofs.lemmas.Nat.{and_le_r}
-use Rattle.std.proofs.lemmas.Bool.{ltb-true, lt-ltb, le-ltb, and_parts, and_from, and_left, and_right, not-false, cases_lt}
+use Rattle.std.proofs.Common.{◌≡◌, ℕ, suc, ◌-◌, ◌<◌, ◌≤◌, Bool, true, false, IsTrue, ◌↔◌, not, ◌&&◌, eqb, ltb, Ok, Err, sym, refl, ap, ◌∙◌, inl, inr, arith}
+use Rattle.std.proofs.lemmas.Bool.{ltb-true, lt-ltb, le-ltb, and_parts, not-false, cases_Bool}
+use Rattle.std.proofs.lemmas.Bool.Decides.{nat_tests}
 use Rattle.model.specs.Charts.{EventChart, is_request, is_answer, owns_request, owns_answer}
+use Rattle.model.specs.Numbers.{any}
 use Rattle.model.specs.Readings.{first_off, or_bound}
 use Rattle.model.specs.Sets.{member}
 use Rattle.model.specs.declared.fault.Fault.TheVariants.{Level}
-use Rattle.model.proofs.Bitwords.{member-and}
-use Rattle.model.proofs.Finds.{first-or}
+use Rattle.model.proofs.Finds.{first-or, any-from, any_some}
 use Rattle.model.proofs.Places.{first_off-is}
 use Rattle.model.proofs.Turns.{provided-ok}
 use Rattle.charts.specs.Rows.{lacking, completed}
-use Rattle.charts.specs.RowSteps.{words_chart, Agree}
-use Rattle.charts.specs.declared.chart.rows.Words.{Words}
-use Rattle.charts.proofs.Bits.{any_none, any-some-bit}
+use Rattle.charts.specs.Sets.{owned_by, chart_from, Agree}
+use Rattle.charts.specs.declared.chart.Sets.{Sets}
 
 -- every place passes if the first that does not lies beyond
 first-all : (n : ℕ) (p : ℕ → Bool) → n ≤ first_off n p → (k : ℕ) → k < n → p k ≡ true
@@ -23,14 +21,6 @@ first-all n p far k h =
     elim (first-or n (λ i. not (p i))) [
       | inl r ↦ absurd (omega (arith, ap (or_bound n) r.1, r.2.within))
       | inr r ↦ not-false (p k) (r.1 k h)
-    ]
-
--- one number more passes
-pub upto : (p : ℕ → Bool) (i : ℕ) → ((j : ℕ) → 1 ≤ j → j < i → p j ≡ true) → p i ≡ true → (j : ℕ) → 1 ≤ j → j ≤ i → p j ≡ true
-upto p i before here j some within =
-    elim (cases_lt j i) [
-      | inl lt ↦ before j some lt
-      | inr ge ↦ (let same : i ≡ j = omega arith in ap p (sym same) ∙ here)
     ]
 
 module _ (c : EventChart) where
@@ -69,41 +59,27 @@ module _ (c : EventChart) where
   pub owns-answer : (d : EventChart) → Ok d ≡ completed c → (j : ℕ) → 1 ≤ j → j ≤ c.levels → owns_answer c j ≡ true
   owns-answer d p j s h = (and_parts (owns_request c j) (owns_answer c j) (lacks-not d p j s h)).1
 
-swap : (t o k : Bool) → ((t && o) && (t && k)) ≡ (t && (k && o))
-swap true true true = refl
-swap true true false = refl
-swap true false true = refl
-swap true false false = refl
-swap false o k = refl
+-- a set of the numbers below n that pass is empty if none passes
+empty-any : (w n : ℕ) (p : ℕ → Bool) (empty : Bool) → ((e : ℕ) → member w e ≡ (ltb e n && p e)) → (IsTrue empty ↔ ((e : ℕ) → member w e ≡ false)) → any n p ≡ not empty
+empty-any w n p empty same told =
+    elim (cases_Bool (any n p)) [
+      | inl some ↦ let i = any_some n p some in let none = told.0 in grind (arith, nat_tests, same i.0)
+      | inr none ↦ let all = told.1 (λ e. grind (arith, nat_tests, same e, any-from n p e)) in grind (arith, nat_tests)
+    ]
 
--- the words that `complete` asks for
-module _ (levels events : ℕ) (w : Words) (agree : Agree levels events w) (j : ℕ) (within : j ≤ 8) where
-  requests-of : (e : ℕ) → member (bit_and (get_or w.owned j 0) w.requests) e
-      ≡ (ltb e (words_chart levels events w).events && (is_request ((words_chart levels events w).kind e) && eqb ((words_chart levels events w).owner e) j))
-  requests-of e =
-      member-and (get_or w.owned j 0) w.requests e
-      ∙ ap₂ (λ (a b : Bool). a && b) (agree.owners j e within) (agree.asking e)
-      ∙ swap (ltb e (words_chart levels events w).events) (eqb ((words_chart levels events w).owner e) j) (is_request ((words_chart levels events w).kind e))
+-- the sets that `complete` asks for
+module _ (levels events : ℕ) (s : Sets) (agree : Agree levels events s) (j i : ℕ) (within : j ≤ 8) (same : i ≡ j) where
+  abbrev pub chart : EventChart
+  chart = chart_from levels events s
 
-  answers_of : (e : ℕ) → member (bit_and (get_or w.owned j 0) w.answers) e
-      ≡ (ltb e (words_chart levels events w).events && (is_answer ((words_chart levels events w).kind e) && eqb ((words_chart levels events w).owner e) j))
-  answers_of e =
-      member-and (get_or w.owned j 0) w.answers e
-      ∙ ap₂ (λ (a b : Bool). a && b) (agree.owners j e within) (agree.answering e)
-      ∙ swap (ltb e (words_chart levels events w).events) (eqb ((words_chart levels events w).owner e) j) (is_answer ((words_chart levels events w).kind e))
+  pub requests_empty : (w : ℕ) (empty : Bool) → ((e : ℕ) → member w e ≡ (owned_by s.owned i e && member s.requests.word e)) → (IsTrue empty ↔ ((e : ℕ) → member w e ≡ false))
+      → owns_request chart j ≡ not empty
+  requests_empty w empty of told =
+      empty-any w chart.events (λ e. is_request (chart.kind e) && eqb (chart.owner e) j) empty
+      (λ e. grind (arith, nat_tests, of e, agree.owners j e within, agree.asking e)) told
 
-  abbrev of_requests : ℕ
-  of_requests = bit_and (get_or w.owned j 0) w.requests
-
-  abbrev of_answers : ℕ
-  of_answers = bit_and (get_or w.owned j 0) w.answers
-
-  pub both-not : (of_requests ≡ 0) ⊎ ((of_requests ≢ 0) × (of_answers ≡ 0)) → both (words_chart levels events w) j ≡ false
-  both-not (inl z) = and_left (owns_request (words_chart levels events w) j) (owns_answer (words_chart levels events w) j) (any_none _ _ _ requests-of z)
-  both-not (inr z) = and_right (owns_request (words_chart levels events w) j) (owns_answer (words_chart levels events w) j) (any_none _ _ _ answers_of z.1)
-
-  pub both_some : w.requests < 2 ^ 64 → w.answers < 2 ^ 64 → of_requests ≢ 0 → of_answers ≢ 0 → both (words_chart levels events w) j ≡ true
-  both_some r a p q =
-      and_from (owns_request (words_chart levels events w) j) (owns_answer (words_chart levels events w) j)
-      (any-some-bit _ _ _ requests-of (omega (arith, and_le_r (get_or w.owned j 0) w.requests)) p)
-      (any-some-bit _ _ _ answers_of (omega (arith, and_le_r (get_or w.owned j 0) w.answers)) q)
+  pub answers_empty : (w : ℕ) (empty : Bool) → ((e : ℕ) → member w e ≡ (owned_by s.owned i e && member s.answers.word e)) → (IsTrue empty ↔ ((e : ℕ) → member w e ≡ false))
+      → owns_answer chart j ≡ not empty
+  answers_empty w empty of told =
+      empty-any w chart.events (λ e. is_answer (chart.kind e) && eqb (chart.owner e) j) empty
+      (λ e. grind (arith, nat_tests, of e, agree.owners j e within, agree.answering e)) told

@@ -1,4 +1,3 @@
-pub mod Bits
 pub mod EventRows
 pub mod Gathering
 pub mod Levels

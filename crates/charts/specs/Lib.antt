@@ -3,4 +3,4 @@ pub mod Headers
 pub mod Meanings
 pub mod RowSteps
 pub mod Rows
-pub mod Words
+pub mod Sets

@@ -1,19 +1,12 @@
 -- What an event body says: a row of three bytes for each event, with its kind letter, its owner as a number and its control letter. Assumes nothing.
 use Rattle.std.specs.Prelude.{ℕ, suc, ◌+◌, ◌-◌, ◌*◌, ◌%◌, Bool, cond, ◌&&◌, ◌||◌, List, length, drop, Ok, Result, ◌==◌, nat_le, nat_lt, slice_index}
 use Rattle.model.specs.Charts.{EventChart, owns_request, owns_answer}
+use Rattle.model.specs.Kinds.{is_kind, kind_of}
 use Rattle.model.specs.Readings.{first_off, provided, and_then}
 use Rattle.model.specs.declared.fault.Fault.{Fault}
 use Rattle.model.specs.declared.fault.Fault.TheVariants.{Contents, Event, Level}
-use Rattle.model.specs.declared.kind.Kind.{Kind}
-use Rattle.model.specs.declared.kind.Kind.TheVariants.{High, Low, Request, Answer}
+use Rattle.model.specs.declared.kind.Kind.TheVariants.{Low}
 use Rattle.charts.specs.Headers.{header_reading}
-
--- the kind letters are H (72), L (76), R (82) and A (65)
-abbrev pub is_kind : ℕ → Bool
-is_kind letter = letter == 72 || (letter == 76 || (letter == 82 || letter == 65))
-
-abbrev pub kind_of : ℕ → Kind
-kind_of letter = cond (letter == 72) High (cond (letter == 82) Request (cond (letter == 65) Answer Low))
 
 -- an H event has owner 0, any other one of the low levels
 abbrev pub owner_fits : (levels letter owner : ℕ) → Bool

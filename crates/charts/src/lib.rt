@@ -37,10 +37,7 @@ mod tests {
         if place < 15 {
             bytes[place] = byte;
         }
-        match Chart::read(&bytes) {
-            Ok(_) => None,
-            Err(fault) => Some(fault),
-        }
+        Chart::read(&bytes).err()
     }
 
     #[test]

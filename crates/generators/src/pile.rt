@@ -39,7 +39,8 @@ impl Bank for Empty {
     }
 }
 
-// The first generator, and the bank of the rest.
+// The first generator, and the bank of the rest. Each reply has its own type and arguments, so the five matches on the component stay: closures for both
+// sides would be longer.
 #[derive(Drop)]
 pub struct Pile<G: Generator, B: Bank> {
     pub first: G,

@@ -36,8 +36,7 @@ impl<G: Generator> Generator for Selfloop<G> {
     }
 
     fn next(&self, state: u16, event: u8) -> Next {
-        let below = self.inner.next(state, event);
-        match below {
+        match self.inner.next(state, event) {
             Next::Foreign if self.events.contains(event) => {
                 if state < self.inner.count() {
                     Next::To(state)
@@ -45,7 +44,7 @@ impl<G: Generator> Generator for Selfloop<G> {
                     Next::Forbidden
                 }
             }
-            _ => below,
+            reply => reply,
         }
     }
 }

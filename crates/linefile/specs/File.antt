@@ -2,15 +2,24 @@
 use Rattle.std.specs.Prelude.{ℕ, suc, List, map, Some, Ok, Result}
 use Rattle.std.specs.List.{range_with_len}
 use Rattle.model.specs.Charts.{EventChart}
+use Rattle.model.specs.Components.{components}
 use Rattle.model.specs.Generators.{Gen}
 use Rattle.model.specs.Readings.{and_then, in_turn}
 use Rattle.model.specs.declared.fault.Fault.{Fault}
-use Rattle.charts.specs.Headers.{header_reading}
+use Rattle.charts.specs.Headers.{Sizes, header_reading}
 use Rattle.charts.specs.Rows.{rows_reading}
 use Rattle.makes.specs.Shapes.{Shape}
 use Rattle.makes.specs.Bodies.{body_reading}
-use Rattle.linefile.specs.Layout.{components, contents_end, body_start, body_of, contents_reading}
+use Rattle.linefile.specs.Layout.{contents_end, body_start, body_of, contents_reading}
 use Rattle.linefile.specs.Bank.{component_in}
+
+-- the sizes of a file whose header and contents are right
+unfoldable pub opened : List ℕ → Result Sizes Fault
+opened file = and_then (header_reading file) (λ sizes. and_then (contents_reading sizes.levels sizes.events file) (λ _. Ok sizes))
+
+-- the event body of a file of these sizes
+abbrev pub event_reading : Sizes → List ℕ → Result EventChart Fault
+event_reading sizes file = rows_reading sizes.levels sizes.events (body_of sizes.levels file 0) (contents_end sizes.levels)
 
 -- the chart of a file: header, contents, and then the event body
 unfoldable pub chart_reading : List ℕ → Result EventChart Fault

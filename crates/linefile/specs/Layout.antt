@@ -1,14 +1,12 @@
 -- Where the parts of a line file stand: three bytes, contents rows of four bytes, and the bodies back to back to the file's end. Assumes nothing.
 use Rattle.std.specs.Prelude.{◌≡◌, ℕ, zero, suc, ◌+◌, ◌*◌, ◌<◌, List, [], map, length, take, drop, Ok, Result, ◌==◌, nat_le, slice_index, slice_index_or}
 use Rattle.std.specs.Borrow.{Bor}
+use Rattle.model.specs.Components.{components}
 use Rattle.model.specs.Readings.{provided, and_then, in_turn}
 use Rattle.model.specs.declared.fault.Fault.{Fault}
 use Rattle.model.specs.declared.fault.Fault.TheVariants.{Contents}
 
--- the components of a line of n levels, and its contents rows: the event body, then the components
-abbrev pub components : ℕ → ℕ
-components n = 2 + 3 * n
-
+-- the contents rows of a line of n levels: the event body, then the components
 abbrev pub rows : ℕ → ℕ
 rows n = 1 + components n
 

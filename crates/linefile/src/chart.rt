@@ -4,17 +4,13 @@ ghost use Rattle.model.specs.Readings.{meant};
 ghost use Rattle.charts.specs.Meanings.{chart_of};
 ghost use Rattle.linefile.specs.File.{chart_reading};
 
-use crate::contents::{Contents, contents_end};
+use crate::contents::Contents;
 use charts::chart::Chart;
-use charts::header::Header;
 use model::fault::Fault;
 
 // Reads the header, the contents and the event body.
 pub fn read_chart(file: &[u8]) -> Result<Chart, Fault>
     ensures { meant chart_of result ≡ chart_reading file.now }
 {
-    let header = Header::read(file)?;
-    let levels = header.levels();
-    let contents = Contents::read(file, levels, header.events())?;
-    Chart::from_rows(header, contents.bodies[0], contents_end(levels) as u16)
+    Contents::read(file)?.chart()
 }

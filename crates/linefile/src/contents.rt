@@ -2,14 +2,23 @@
 ghost use Rattle.std.specs.Prelude.{◌≡◌, ℕ, ◌+◌, ◌*◌, ◌<◌, ◌≤◌, [], length, take, drop, IfOk, Ok, ◌==◌, nat_le};
 ghost use Rattle.model.specs.Readings.{meant, provided, in_turn};
 ghost use Rattle.model.specs.declared.fault.Fault.TheVariants.{Contents as ContentsFault};
-ghost use Rattle.linefile.specs.Layout.{rows, contents_end, body_start, body_of, row_reading, contents_reading, texts, Found};
+ghost use Rattle.charts.specs.Meanings.{header_meaning, chart_of};
+ghost use Rattle.linefile.specs.File.{opened, event_reading};
+ghost use Rattle.linefile.specs.Layout.{rows, contents_end, body_start, body_of, row_reading, texts, Found};
 
+use charts::chart::Chart;
+use charts::header::Header;
 use model::fault::Fault;
 
-// The bodies that the contents rows name: row 0 is the event body, row c + 1 component c.
+// A line file whose contents are right, its sizes, and the bodies that its rows name: row 0 is the event body, row c + 1 component c.
 #[derive(Clone, Copy)]
 pub(crate) struct Contents<'a> {
+    pub(crate) file: &'a [u8],
+    pub(crate) header: Header,
     pub(crate) bodies: [&'a [u8]; 27],
+    ghost small: { length file.now ≤ 60000 },
+    ghost right: { in_turn (row_reading header.levels file.now) (rows header.levels) ≡ Ok tt },
+    ghost found: { Found header.levels file.now (texts bodies) },
 }
 
 // The bodies as the rows lay them, and where the last one ends.
@@ -19,11 +28,11 @@ struct Laid<'a> {
     end: usize,
 }
 
-// Where the contents of a file of so many levels end, and its first body begins.
-pub(crate) fn contents_end(levels: u8) -> usize
-    ensures { result ≡ contents_end levels }
+// Where the contents of a file end, and its first body begins.
+pub(crate) fn contents_end(header: Header) -> usize
+    ensures { result ≡ contents_end header.levels }
 {
-    15 + 12 * usize::from(levels)
+    15 + 12 * usize::from(header.levels())
 }
 
 // The number that two bytes hold, the high byte first.
@@ -55,14 +64,15 @@ fn body_at<'a>(
 
 impl<'a> Laid<'a> {
     // Lays the bodies of all rows, one behind the other.
-    fn read(file: &'a [u8], levels: u8) -> Result<Laid<'a>, Fault>
-        requires { (levels ≤ 8) × (contents_end levels ≤ length file.now) }
-        ensures told { meant (λ _. tt) result ≡ in_turn (row_reading levels file.now) (rows levels) }
-        ensures laid { IfOk result (λ c. Found levels file.now (texts c.bodies) × (c.end ≡ body_start levels file.now (rows levels)) × (c.end ≤ length file.now) × (length c.bodies ≡ 27)) }
+    fn read(file: &'a [u8], header: Header) -> Result<Laid<'a>, Fault>
+        requires { contents_end header.levels ≤ length file.now }
+        ensures told { meant (λ _. tt) result ≡ in_turn (row_reading header.levels file.now) (rows header.levels) }
+        ensures laid { IfOk result (λ c. Found header.levels file.now (texts c.bodies) × (c.end ≡ body_start header.levels file.now (rows header.levels)) × (c.end ≤ length file.now) × (length c.bodies ≡ 27)) }
     {
         let mut bodies: [&'a [u8]; 27] = [&[]; 27];
-        let mut end = contents_end(levels);
+        let mut end = contents_end(header);
         let mut left = &file[3..end];
+        // a loop over the 27 bodies would need a way out where the rows end
         let mut row = 0usize;
         while let [start_high, start_low, length_high, length_low, rest @ ..] = left {
             let start = number(*start_high, *start_low);
@@ -78,24 +88,36 @@ impl<'a> Laid<'a> {
 }
 
 impl<'a> Contents<'a> {
-    // Reads the contents rows of a file with so many levels and events.
-    pub(crate) fn read(file: &'a [u8], levels: u8, events: u8) -> Result<Contents<'a>, Fault>
-        requires { (levels ≤ 8) × (length file.now ≤ 60000) }
-        ensures told { meant (λ _. tt) result ≡ contents_reading levels events file.now }
-        ensures found { IfOk result (λ c. Found levels file.now (texts c.bodies) × (length c.bodies ≡ 27)) }
+    // Reads the header and the contents rows.
+    pub(crate) fn read(file: &'a [u8]) -> Result<Contents<'a>, Fault>
+        ensures told { meant (λ c. header_meaning c.header) result ≡ opened file.now }
+        ensures same { IfOk result (λ c. c.file.now ≡ file.now) }
     {
-        if file.len() < contents_end(levels) {
+        let header = Header::read(file)?;
+        if file.len() < contents_end(header) {
             return Err(Fault::Contents {
                 place: file.len() as u32,
             });
         }
-        let Laid { bodies, end } = Laid::read(file, levels)?;
-        if bodies[0].len() != 3 * usize::from(events) {
+        let Laid { bodies, end } = Laid::read(file, header)?;
+        if bodies[0].len() != 3 * usize::from(header.events()) {
             return Err(Fault::Contents { place: 5 });
         }
         if end < file.len() {
             return Err(Fault::Contents { place: end as u32 });
         }
-        Ok(Contents { bodies })
+        Ok(Contents {
+            file,
+            header,
+            bodies,
+        })
+    }
+
+    // Reads the event body.
+    pub(crate) fn chart(&self) -> Result<Chart, Fault>
+        ensures { meant chart_of result ≡ event_reading (header_meaning self.now.header) self.now.file.now }
+    {
+        let end = contents_end(self.header) as u16;
+        Chart::from_rows(self.header, self.bodies[0], end)
     }
 }

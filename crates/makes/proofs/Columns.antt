@@ -1,25 +1,23 @@
 -- The columns of a stock's body. Assumes nothing.
-use Rattle.std.proofs.Common.{◌≡◌, ℕ, ◌+◌, ◌<◌, ◌≤◌, Bool, eqb, List, length, get_or, take, drop, sym, ◌∙◌, arith}
-use Rattle.std.specs.List.{IsAnyAnswer}
-use Rattle.std.proofs.lemmas.Bool.{eq-eqb, eqb-true}
-use Rattle.std.proofs.lemmas.List.Elements.{contains_decides}
-use Rattle.std.proofs.lemmas.List.{length-take-le, length-drop, get_or-take, get_or-drop, get_or_default}
+use Rattle.std.proofs.Common.{◌≡◌, ℕ, ◌+◌, ◌-◌, ◌<◌, ◌≤◌, Bool, true, false, not, eqb, ◌≢◌, List, get_or, inl, inr, arith}
+use Rattle.std.proofs.lemmas.Bool.{cases_Bool}
+use Rattle.std.proofs.lemmas.Bool.Decides.{nat_tests}
 use Rattle.model.specs.Numbers.{any}
-use Rattle.model.proofs.Finds.{any-from, any_some, bool_iff}
-use Rattle.std.proofs.lemmas.Bool.Decides.{Decides-eqb}
+use Rattle.model.proofs.Finds.{any-from}
+use Rattle.makes.specs.Bodies.{column_fits}
 
--- whether a byte stands among the n from place m on
-pub contains-any : (body : List ℕ) (m n x : ℕ) (r : Bool) → m + n ≤ length body → IsAnyAnswer (λ y t. eqb y x ≡ t) (take n (drop m body)) r →
-    r ≡ any n (λ k. eqb (get_or body (m + k) 0) x)
-contains-any body m n x r fits has =
-    let part : List ℕ = take n (drop m body) in
-    let size : length (take n (drop m body)) ≡ n = length-take-le n (drop m body) (rw (length-drop m body) (omega arith)) in
-    let at : (k : ℕ) → k < n → get_or (take n (drop m body)) k 0 ≡ get_or body (m + k) 0 = λ k h. get_or-take n (drop m body) k 0 h ∙ get_or-drop m body k 0 in
-    let d = contains_decides eqb Decides-eqb (take n (drop m body)) x r has in
-    bool_iff r (any n (λ k. eqb (get_or body (m + k) 0) x))
-    (λ t. let f = d.0 t in
-    let h : f.0 < n = omega (arith, f.1, size) in
-    any-from n (λ k. eqb (get_or body (m + k) 0) x) f.0 h (eq-eqb (get_or body (m + f.0) 0) x (sym (at f.0 h) ∙ f.2 0)))
-    (λ t. let f = any_some n (λ k. eqb (get_or body (m + k) 0) x) t in
-    let h : f.0 < length (take n (drop m body)) = omega (arith, f.1, size) in
-    d.1 (f.0, h, λ e. get_or_default (take n (drop m body)) f.0 e 0 h ∙ at f.0 f.1 ∙ eqb-true (get_or body (m + f.0) 0) x f.2))
+-- whether column i is told apart from those before it
+pub apart-told : (E : ℕ) (body : List ℕ) (i : ℕ) (earlier : Bool) → 2 ≤ i → get_or body i 0 ≢ 255 → get_or body i 0 < E
+    → (any (i - 2) (λ k. eqb (get_or body (2 + k) 0) (get_or body i 0)) ≡ true → earlier ≡ true)
+    → (((j : ℕ) → 2 ≤ j → j < i → eqb (get_or body j 0) (get_or body i 0) ≡ false) → earlier ≡ false)
+    → not earlier ≡ column_fits E body i
+apart-told E body i earlier second some known found missed =
+    elim (cases_Bool (any (i - 2) (λ k. eqb (get_or body (2 + k) 0) (get_or body i 0)))) [
+      | inl t ↦ let e = found t in grind (arith, nat_tests)
+      | inr f ↦
+          let none : (j : ℕ) → 2 ≤ j → j < i → eqb (get_or body j 0) (get_or body i 0) ≡ false = λ j l h.
+          let at : 2 + (j - 2) ≡ j = omega arith in
+          let from = any-from (i - 2) (λ k. eqb (get_or body (2 + k) 0) (get_or body i 0)) (j - 2) (omega arith) in
+          grind (arith, nat_tests) in
+          let e = missed none in grind (arith, nat_tests)
+    ]

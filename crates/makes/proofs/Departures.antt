@@ -1,6 +1,9 @@
 -- Where a body departs from its make. Assumes nothing.
-use Rattle.std.proofs.Common.{◌≡◌, ℕ, ◌+◌, ◌*◌, ◌<◌, ◌≤◌, Bool, true, false, not, eqb, ◌⊎◌, List, length, get_or, Ok, Err, Option, sym, ap, ◌∙◌, subst, inl, inr, mul-le-mul, arith}
-use Rattle.std.proofs.lemmas.Bool.{eq-eqb, ne_eqb, eqb-true, le-ltb, and_parts, cases_Bool, cases_eq, cases_lt, not-true, not-false}
+use Rattle.std.proofs.Common.{◌≡◌, ℕ, ◌+◌, ◌*◌, ◌<◌, ◌≤◌, Bool, true, false, not, eqb, ◌⊎◌, List, length, get_or, Ok, Err, Some, None, Option, refl, sym, ap, ◌∙◌, subst, inl, inr, arith}
+use Rattle.std.proofs.lemmas.Bool.Decides.{nat_tests}
+use Rattle.std.proofs.lemmas.Bool.{eq-eqb, ne_eqb, eqb-true, and_parts, cases_Bool, cases_eq, cases_lt, not-true, not-false}
+use Rattle.std.specs.Option.{unwrap_or}
+use Rattle.model.proofs.Places.{first_off-is}
 use Rattle.model.specs.Numbers.{all}
 use Rattle.model.specs.Readings.{first_off, or_bound}
 use Rattle.model.specs.declared.fault.Fault.TheVariants.{Body}
@@ -45,20 +48,6 @@ module _ (E : ℕ) (body : List ℕ) where
   fits-stock i h =
       rw (ne_eqb (get_or body 0 0) 84 (λ e. omega arith), ne_eqb (get_or body 0 0) 67 (λ e. omega arith), eq-eqb (get_or body 0 0) 73 h)
 
-  fits-none : (i : ℕ) → (get_or body 0 0 ≡ 84 → ⊥) → (get_or body 0 0 ≡ 67 → ⊥) → (get_or body 0 0 ≡ 73 → ⊥) → body_fits E body i ≡ false
-  unfolding body_fits
-  fits-none i t c s = rw (ne_eqb (get_or body 0 0) 84 t, ne_eqb (get_or body 0 0) 67 c, ne_eqb (get_or body 0 0) 73 s)
-
-  -- the size by the letter
-  pub size-table : get_or body 0 0 ≡ 84 → body_size E body ≡ 3 + E + get_or body 1 0 + get_or body 1 0 * E
-  size-table h = rw (eq-eqb (get_or body 0 0) 84 h)
-
-  pub size-counter : get_or body 0 0 ≡ 67 → body_size E body ≡ 2 + E
-  size-counter h = rw (ne_eqb (get_or body 0 0) 84 (λ e. omega arith), eq-eqb (get_or body 0 0) 67 h)
-
-  pub size-stock : (get_or body 0 0 ≡ 84 → ⊥) → (get_or body 0 0 ≡ 67 → ⊥) → body_size E body ≡ 6
-  size-stock t c = rw (ne_eqb (get_or body 0 0) 84 t, ne_eqb (get_or body 0 0) 67 c)
-
   -- the parts by the letter
   pub shape-table : get_or body 0 0 ≡ 84 → shape_in E body ≡ table_in E body
   unfolding shape_in
@@ -68,52 +57,31 @@ module _ (E : ℕ) (body : List ℕ) where
   unfolding shape_in
   shape-counter h = rw (ne_eqb (get_or body 0 0) 84 (λ e. omega arith), eq-eqb (get_or body 0 0) 67 h)
 
-  pub shape-stock : (get_or body 0 0 ≡ 84 → ⊥) → (get_or body 0 0 ≡ 67 → ⊥) → shape_in E body ≡ stock_in body
+  pub shape-stock : get_or body 0 0 ≡ 73 → shape_in E body ≡ stock_in body
   unfolding shape_in
-  shape-stock t c = rw (ne_eqb (get_or body 0 0) 84 t, ne_eqb (get_or body 0 0) 67 c)
+  shape-stock h = rw (ne_eqb (get_or body 0 0) 84 (λ e. omega arith), ne_eqb (get_or body 0 0) 67 (λ e. omega arith))
 
   -- no byte fits past the make's size
   table-past : (i : ℕ) → 3 + E + get_or body 1 0 + get_or body 1 0 * E ≤ i → table_fits E body i ≡ false
-  table-past i h =
-      rw (
-        ne_eqb i 0 (λ e. omega arith),
-        ne_eqb i 1 (λ e. omega arith),
-        ne_eqb i 2 (λ e. omega arith),
-        le-ltb i (3 + E) (omega arith),
-        le-ltb i (3 + E + get_or body 1 0) (omega arith),
-        le-ltb i (3 + E + get_or body 1 0 + get_or body 1 0 * E) h,
-      )
+  table-past i h = grind (arith, nat_tests)
 
   counter-past : (i : ℕ) → 2 + E ≤ i → counter_fits E body i ≡ false
-  counter-past i h = rw (ne_eqb i 0 (λ e. omega arith), ne_eqb i 1 (λ e. omega arith), le-ltb i (2 + E) h)
+  counter-past i h = grind (arith, nat_tests)
 
   stock-past : (i : ℕ) → 6 ≤ i → stock_fits E body i ≡ false
-  stock-past i h = rw (ne_eqb i 0 (λ e. omega arith), ne_eqb i 1 (λ e. omega arith), le-ltb i 6 h)
+  stock-past i h = grind (arith, nat_tests)
 
   pub past-size : (i : ℕ) → body_size E body ≤ i → body_fits E body i ≡ false
+  unfolding body_fits
   past-size i h =
       elim (cases_eq (get_or body 0 0) 84) [
-        | inl t ↦ fits-table i t ∙ table-past i (omega (arith, size-table t))
+        | inl t ↦ fits-table i t ∙ table-past i (grind (arith, nat_tests))
         | inr t ↦ elim (cases_eq (get_or body 0 0) 67) [
-          | inl c ↦ fits-counter i c ∙ counter-past i (omega (arith, size-counter c))
+          | inl c ↦ fits-counter i c ∙ counter-past i (grind (arith, nat_tests))
           | inr c ↦ elim (cases_eq (get_or body 0 0) 73) [
-            | inl s ↦ fits-stock i s ∙ stock-past i (omega (arith, size-stock t c))
-            | inr s ↦ fits-none i t c s
+            | inl z ↦ fits-stock i z ∙ stock-past i (grind (arith, nat_tests))
+            | inr z ↦ rw (ne_eqb (get_or body 0 0) 84 t, ne_eqb (get_or body 0 0) 67 c, ne_eqb (get_or body 0 0) 73 z)
           ]
-        ]
-      ]
-
-  -- a size fits in 17 bits
-  pub size_small : E < 256 → get_or body 1 0 < 256 → body_size E body < 65539
-  size_small e n =
-      let a : get_or body 1 0 ≤ 255 = omega arith in
-      let b : E ≤ 255 = omega arith in
-      let m : get_or body 1 0 * E ≤ 255 * 255 = mul-le-mul a b in
-      elim (cases_eq (get_or body 0 0) 84) [
-        | inl t ↦ omega (arith, size-table t, m)
-        | inr t ↦ elim (cases_eq (get_or body 0 0) 67) [
-          | inl c ↦ omega (arith, size-counter c)
-          | inr c ↦ omega (arith, size-stock t c)
         ]
       ]
 
@@ -172,3 +140,12 @@ module _ (component : Option ℕ) (origin E : ℕ) (body : List ℕ) (s : Shape)
   pub read_fits : (i : ℕ) → i < body_size E body → body_fits E body i ≡ true
   read_fits i h =
       all-at (length body) (body_fits E body) (and_parts (all (length body) (body_fits E body)) (eqb (length body) (body_size E body)) whole).0 i (omega (arith, read-size))
+
+-- the first place that departs, or the end if none does
+pub departure-found : (E : ℕ) (body : List ℕ) (o : Option ℕ)
+    → ((k : ℕ) → o ≡ Some k → (k < length body) × (body_fits E body k ≡ false) × ((i : ℕ) → i < k → body_fits E body i ≡ true))
+    → (o ≡ None → (k : ℕ) → k < length body → body_fits E body k ≡ true)
+    → unwrap_or o (length body) ≡ departure E body
+departure-found E body (Some k) some none =
+    let f = some k refl in sym (first_off-is (length body) (body_fits E body) k (omega (arith, f.0)) f.2 (λ _. f.1))
+departure-found E body None some none = sym (first_off-is (length body) (body_fits E body) (length body) (omega arith) (none refl) (λ h. absurd (omega arith)))

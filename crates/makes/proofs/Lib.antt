@@ -1,4 +1,3 @@
 pub mod Columns
 pub mod Departures
-pub mod Parts
 pub mod Plain

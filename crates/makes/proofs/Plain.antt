@@ -12,7 +12,7 @@ use Rattle.makes.specs.Shapes.{Shape, stock, table_in, counter_in, stock_in}
 use Rattle.makes.specs.Bodies.{table_fits, counter_fits, stock_fits, column_fits, target_fits}
 use Rattle.makes.specs.Meanings.{gen_of, counted, reply, table_initial, table_knows, table_marks, table_target, table_next, counter_knows, step_permitted, stepped, counter_next, stock_knows, stock_next}
 use Rattle.makes.specs.Laws.{TablePlain, CounterPlain, StockPlain, Tables-plain, Counters-plain, Stocks-plain, target_byte}
-use Rattle.makes.proofs.Departures.{fits-table, fits-counter, fits-stock, size-table, size-counter, size-stock, shape-table, shape-counter, shape-stock, read-shape, read-size, read_fits}
+use Rattle.makes.proofs.Departures.{fits-table, fits-counter, fits-stock, shape-table, shape-counter, shape-stock, read-shape, read-size, read_fits}
 
 -- a byte of a part
 part_at : (m n : ℕ) (body : List ℕ) (k : ℕ) → k < n → get_or (take n (drop m body)) k 0 ≡ get_or body (m + k) 0
@@ -121,7 +121,7 @@ tables-plain component origin E body s few read letter =
     let shape_is : s ≡ table_in E body = read-shape component origin E body s read ∙ shape-table E body t in
     let size = read-size component origin E body s read in
     rw shape_is
-    (table-plain E body few (size ∙ size-table E body t)
+    (table-plain E body few (grind (arith, nat_tests, size))
     (λ i h. sym (fits-table E body i t) ∙ read_fits component origin E body s read i (omega arith)))
 
 -- counters
@@ -181,7 +181,7 @@ counters-plain component origin E body s few read letter =
     let shape_is : s ≡ counter_in body = read-shape component origin E body s read ∙ shape-counter E body c in
     let size = read-size component origin E body s read in
     rw shape_is
-    (counter-plain E body few (size ∙ size-counter E body c)
+    (counter-plain E body few (grind (arith, nat_tests, size))
     (λ i h. sym (fits-counter E body i c) ∙ read_fits component origin E body s read i (omega arith)))
 
 -- stocks
@@ -277,10 +277,8 @@ module _ (E : ℕ) (body : List ℕ) (few : E ≤ 64) (size : length body ≡ 6)
 pub stocks-plain : Stocks-plain
 stocks-plain component origin E body s few read letter =
     let i = eqb-true (get_or body 0 0) 73 letter in
-    let not_t : get_or body 0 0 ≢ 84 = λ e. omega arith in
-    let not-c : get_or body 0 0 ≢ 67 = λ e. omega arith in
-    let shape_is : s ≡ stock_in body = read-shape component origin E body s read ∙ shape-stock E body not_t not-c in
+    let shape_is : s ≡ stock_in body = read-shape component origin E body s read ∙ shape-stock E body i in
     let size = read-size component origin E body s read in
     rw shape_is
-    (stock-plain E body few (size ∙ size-stock E body not_t not-c)
+    (stock-plain E body few (grind (arith, nat_tests, size))
     (λ k h. sym (fits-stock E body k i) ∙ read_fits component origin E body s read k (omega arith)))

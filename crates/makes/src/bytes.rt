@@ -5,11 +5,7 @@ ghost use Rattle.std.specs.Prelude.{◌≡◌, take, drop, slice_index_or};
 pub(crate) fn byte_or(bytes: &[u8], place: usize, other: u8) -> u8
     ensures { result ≡ slice_index_or bytes.now place other }
 {
-    if place < bytes.len() {
-        bytes[place]
-    } else {
-        other
-    }
+    bytes.get(place).copied().unwrap_or(other)
 }
 
 // The first `n` bytes, or all where there are fewer, and the others.
@@ -17,6 +13,5 @@ pub(crate) fn split(bytes: &[u8], n: usize) -> (&[u8], &[u8])
     ensures front { result.0.now ≡ take n bytes.now }
     ensures back { result.1.now ≡ drop n bytes.now }
 {
-    let n = n.min(bytes.len());
-    bytes.split_at(n)
+    bytes.split_at(n.min(bytes.len()))
 }

@@ -1,7 +1,7 @@
 // A make as a generator: every reply is that of its meaning.
 ghost use Rattle.std.specs.Prelude.{◌≡◌, ◌+◌};
 ghost use Rattle.makes.specs.Shapes.{shape};
-ghost use Rattle.makes.specs.Meanings.{gen_of, counted, table_initial, table_knows, table_marks, table_target, table_next, counter_knows, counter_next, is_forth, is_back, stock_knows, stock_next};
+ghost use Rattle.makes.specs.Meanings.{gen_of, counted, table_initial, table_knows, table_marks, table_target, table_next, counter_knows, counter_next, stock_knows, stock_next};
 ghost use Rattle.makes.specs.Formed.{formed as well-formed};
 
 use crate::bytes::byte_or;
@@ -32,19 +32,13 @@ fn table_initial(count: u8, initial: u8) -> u16
 fn table_knows(letters: &[u8], event: u8) -> bool
     ensures { result ≡ table_knows letters.now event }
 {
-    match byte_or(letters, event as usize, 0) as char {
-        '+' => event < EVENTS,
-        _ => false,
-    }
+    event < EVENTS && matches!(byte_or(letters, usize::from(event), 0) as char, '+')
 }
 
 fn table_marked(count: u8, marks: &[u8], state: u16) -> bool
     ensures { result ≡ table_marks (counted count) marks.now state }
 {
-    match byte_or(marks, state as usize, 0) as char {
-        'm' => state < table_count(count),
-        _ => false,
-    }
+    state < table_count(count) && matches!(byte_or(marks, usize::from(state), 0) as char, 'm')
 }
 
 // The target at the state's row and the event's column.
@@ -76,10 +70,8 @@ fn table_next(count: u8, letters: &[u8], targets: &[u8], state: u16, event: u8) 
 fn counter_knows(letters: &[u8], event: u8) -> bool
     ensures { result ≡ counter_knows letters.now event }
 {
-    match byte_or(letters, event as usize, 0) as char {
-        'u' | 'd' | 's' => event < EVENTS,
-        _ => false,
-    }
+    let letter = byte_or(letters, usize::from(event), 0);
+    event < EVENTS && matches!(letter as char, 'u' | 'd' | 's')
 }
 
 fn counter_next(capacity: u8, letters: &[u8], state: u16, event: u8) -> Next
@@ -89,7 +81,7 @@ fn counter_next(capacity: u8, letters: &[u8], state: u16, event: u8) -> Next
         return Next::Foreign;
     }
     let capacity = u16::from(capacity);
-    match byte_or(letters, event as usize, 0) as char {
+    match byte_or(letters, usize::from(event), 0) as char {
         'u' if state < capacity => Next::To(state + 1),
         'd' if 0 < state && state <= capacity => Next::To(state - 1),
         's' if state <= capacity => Next::To(state),
@@ -98,26 +90,13 @@ fn counter_next(capacity: u8, letters: &[u8], state: u16, event: u8) -> Next
     }
 }
 
-// Whether the event leads from 0 to 1.
-fn leads_forth(columns: [u8; 4], event: u8) -> bool
-    ensures { result ≡ is_forth columns event }
-{
-    event == columns[0] || event == columns[1]
-}
-
-// Whether the event leads from 1 to 0.
-fn leads_back(columns: [u8; 4], event: u8) -> bool
-    ensures { result ≡ is_back columns event }
-{
-    event == columns[2] || event == columns[3]
-}
-
 fn stock_knows(columns: [u8; 4], event: u8) -> bool
     ensures { result ≡ stock_knows columns event }
 {
-    event < EVENTS && (leads_forth(columns, event) || leads_back(columns, event))
+    event < EVENTS && columns.contains(&event)
 }
 
+// Columns 0 and 1 lead from 0 to 1, columns 2 and 3 back.
 fn stock_next(columns: [u8; 4], state: u16, event: u8) -> Next
     ensures { result ≡ stock_next columns state event }
 {
@@ -125,8 +104,8 @@ fn stock_next(columns: [u8; 4], state: u16, event: u8) -> Next
         return Next::Foreign;
     }
     match state {
-        0 if leads_forth(columns, event) => Next::To(1),
-        1 if leads_back(columns, event) => Next::To(0),
+        0 if columns[..2].contains(&event) => Next::To(1),
+        1 if columns[2..].contains(&event) => Next::To(0),
         _ => Next::Forbidden,
     }
 }

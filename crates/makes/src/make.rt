@@ -1,11 +1,11 @@
 // Generators as bodies of bytes: the parts of a body, and its reader.
-ghost use Rattle.std.specs.Prelude.{◌≡◌, ◌+◌, take, drop, None};
+ghost use Rattle.std.specs.Prelude.{◌≡◌, None};
 ghost use Rattle.model.specs.Readings.{meant};
-ghost use Rattle.makes.specs.Shapes.{table, shape, shape_in, table_in, counter_in, stock_in};
+ghost use Rattle.makes.specs.Shapes.{shape, shape_in, table_in, counter_in, stock_in};
 ghost use Rattle.makes.specs.Bodies.{body_reading};
 
 use crate::bytes::{byte_or, split};
-use crate::fits::{departure, size};
+use crate::fits::Body;
 use model::fault::Fault;
 
 // A generator by the parts of its body, over the events of a chart, numbered from 0.
@@ -53,11 +53,13 @@ impl<'a> Make<'a> {
     ) -> Result<Make<'a>, Fault>
         ensures { meant shape result ≡ body_reading component origin events body.now }
     {
-        whole(body, events, component, origin)?;
-        Ok(Make::cut(body, events))
+        let bytes = body;
+        whole(&Body { bytes, events }, component, origin)?;
+        Ok(Make::cut(bytes, events))
     }
 
     // The parts of a body, untested and in constant time: for a body that was read before.
+    #[tactic(auto, unfolding(crate::specs::Shapes::shape_in))]
     pub fn cut(body: &'a [u8], events: u8) -> Make<'a>
         ensures { shape result ≡ shape_in events body.now }
     {
@@ -70,12 +72,12 @@ impl<'a> Make<'a> {
 }
 
 // Refuses a body that departs from its make, or of which bytes are missing.
-fn whole(body: &[u8], events: u8, component: Option<u8>, origin: u16) -> Result<(), Fault>
-    ensures { meant (λ _. shape_in events body.now) result ≡ body_reading component origin events body.now }
+fn whole(body: &Body, component: Option<u8>, origin: u16) -> Result<(), Fault>
+    ensures { meant (λ _. shape_in body.now.events body.now.bytes.now) result ≡ body_reading component origin body.now.events body.now.bytes.now }
 {
-    let place = departure(body, events);
-    let end = size(body, events);
-    if place < body.len() || place < end {
+    let place = body.departure();
+    let end = body.size();
+    if place < body.bytes.len() || place < end {
         return Err(Fault::Body {
             component,
             place: u32::from(origin) + place as u32,
@@ -84,43 +86,29 @@ fn whole(body: &[u8], events: u8, component: Option<u8>, origin: u16) -> Result<
     Ok(())
 }
 
-// The table whose bytes past the first three are `parts`.
-fn table_of(count: u8, initial: u8, parts: &[u8], events: u8) -> Make<'_>
-    ensures { shape result ≡ table count initial (take events parts.now) (take count (drop events parts.now)) (drop (events + count) parts.now) }
+fn cut_table(body: &[u8], events: u8) -> Make<'_>
+    ensures { shape result ≡ table_in events body.now }
 {
-    let (letters, rest) = split(parts, events as usize);
-    let (marks, targets) = split(rest, count as usize);
+    let count = byte_or(body, 1, 0);
+    let (_, parts) = split(body, 3);
+    let (letters, rest) = split(parts, usize::from(events));
+    let (marks, targets) = split(rest, usize::from(count));
     Make::Table {
         count,
-        initial,
+        initial: byte_or(body, 2, 0),
         letters,
         marks,
         targets,
     }
 }
 
-fn cut_table(body: &[u8], events: u8) -> Make<'_>
-    ensures { shape result ≡ table_in events body.now }
-{
-    match body {
-        [_, count, initial, parts @ ..] => table_of(*count, *initial, parts, events),
-        [_, count] => table_of(*count, 0, &[], events),
-        _ => table_of(0, 0, &[], events),
-    }
-}
-
 fn cut_counter(body: &[u8]) -> Make<'_>
     ensures { shape result ≡ counter_in body.now }
 {
-    match body {
-        [_, capacity, letters @ ..] => Make::Counter {
-            capacity: *capacity,
-            letters,
-        },
-        _ => Make::Counter {
-            capacity: 0,
-            letters: &[],
-        },
+    let (_, letters) = split(body, 2);
+    Make::Counter {
+        capacity: byte_or(body, 1, 0),
+        letters,
     }
 }
 

@@ -1,7 +1,9 @@
 pub mod Automata
 pub mod Charts
+pub mod Components
 pub mod Faults
 pub mod Generators
+pub mod Kinds
 pub mod Numbers
 pub mod Readings
 pub mod Sets

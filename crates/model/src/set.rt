@@ -1,5 +1,5 @@
 // Sets of events, one bit of a 64-bit word for each event.
-ghost use Rattle.std.specs.Prelude.{◌≡◌, ℕ, ◌&&◌, ◌||◌, ◌==◌, nat_lt};
+ghost use Rattle.std.specs.Prelude.{◌≡◌, ℕ, IsTrue, ◌↔◌, false, not, ◌&&◌, ◌||◌, ◌==◌, nat_lt};
 ghost use Rattle.model.specs.Sets.{member};
 
 #[derive(Clone, Copy, PartialEq, Eq, Debug)]
@@ -14,6 +14,12 @@ impl EventSet {
         ensures { result ≡ member self.word event }
     {
         event < 64 && (self.word >> event) & 1 == 1
+    }
+
+    pub fn is_empty(self) -> bool
+        ensures { IsTrue result ↔ ((e : ℕ) → member self.word e ≡ false) }
+    {
+        self.word == 0
     }
 
     // The set with the event too; an event from 64 up is in no set.
@@ -42,6 +48,15 @@ impl EventSet {
     {
         EventSet {
             word: self.word & other.word,
+        }
+    }
+
+    // The events of this set that the other lacks.
+    pub fn difference(self, other: EventSet) -> EventSet
+        ensures { (k : ℕ) → member result.word k ≡ (member self.word k && not (member other.word k)) }
+    {
+        EventSet {
+            word: self.word & !other.word,
         }
     }
 }

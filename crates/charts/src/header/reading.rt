@@ -1,5 +1,6 @@
 // Reading a header, and its two numbers.
 ghost use Rattle.std.specs.Prelude.{◌≡◌, ◌≤◌};
+ghost use Rattle.model.specs.Components.{components};
 ghost use Rattle.model.specs.Readings.{meant};
 ghost use Rattle.charts.specs.Headers.{header_reading};
 ghost use Rattle.charts.specs.Meanings.{header_meaning};
@@ -27,6 +28,14 @@ impl Header {
         self.events
     }
 
+    // How many components a line with this header has.
+    pub fn components(self) -> u8
+        ensures value { result ≡ components (header_meaning self).levels }
+        ensures few { result ≤ 26 }
+    {
+        2 + 3 * self.levels
+    }
+
     // Reads the first three bytes: 1, the number of low levels, the number of events.
     pub fn read(bytes: &[u8]) -> Result<Header, Fault>
         ensures { meant header_meaning result ≡ header_reading bytes.now }
@@ -44,10 +53,10 @@ impl Header {
         if *version != 1 {
             return Err(Fault::Header { place: 0 });
         }
-        if *levels < 1 || *levels > 8 {
+        if !(1..=8).contains(levels) {
             return Err(Fault::Header { place: 1 });
         }
-        if *events < 1 || *events > 64 {
+        if !(1..=64).contains(events) {
             return Err(Fault::Header { place: 2 });
         }
         Ok(Header {

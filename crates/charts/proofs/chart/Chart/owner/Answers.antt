@@ -1,14 +1,14 @@
-use Rattle.std.proofs.Common.{◌≡◌, ℕ, false, sym, ◌∙◌, arith, below_more}
-use Rattle.model.specs.Charts.{in_level}
-use Rattle.charts.specs.Meanings.{chart_of}
-use Rattle.charts.specs.Words.{chart_from}
-use Rattle.charts.proofs.Sets.{owner-none}
+use Rattle.std.proofs.Common.{◌<◌, rules}
+use Rattle.std.proofs.iter.runs.Sources.{ranges, inclusive_listed}
+use Rattle.charts.proofs.Sets.{owner-told}
 use Rattle.charts.proofs.chart.Chart.owner.Goals as goal
 
-pub returns-else-contains : goal.returns-else-contains
-unfolding chart_of chart_from
-returns-else-contains c =
-    owner-none c.args.self.now c.args.event
-    (λ j h.
-    below_more (λ (k : ℕ). in_level (chart_of c.args.self.now) k c.args.event ≡ false) c.loop-level.level c.loop-level.invariant
-    (sym (c.if-contains.ensures ∙ c.level_alphabet.ensures c.args.event)) j (omega arith))
+pub returns : goal.returns
+returns c =
+    owner-told c.args.self.now c.args.event c.find.result
+    (λ j e. search (rules, ranges))
+    (λ e j h.
+    let run = c.find.ensures.runs.0 in
+    let within : j < run.len = search (rules, ranges) in
+    let at = ((inclusive_listed run run.seen).4 (search rules)).0.3 j within in
+    search (rules, ranges, at))

@@ -1,6 +1,6 @@
-use Rattle.std.proofs.Common.{rules}
-use Rattle.charts.proofs.Sets.{in-uncontrollable}
+use Rattle.charts.specs.Meanings.{chart_of}
 use Rattle.charts.proofs.chart.Chart.uncontrollable_events.Goals as goal
 
 pub returns : goal.returns
-returns c = let h = in-uncontrollable c.args.self.now in search rules
+unfolding chart_of
+returns c = c.args.self.now.agree.control

@@ -23,7 +23,7 @@ loop-left-init c =
 pub returns-in_err-body : goal.returns-in_err-body
 returns-in_err-body c =
     let f : List ℕ = c.args.file.now in
-    let n : ℕ = c.args.levels in
+    let n : ℕ = c.args.header.levels in
     let left : List ℕ = c.loop-left.left.now in
     let s = c.number-start.ensures ∙ start_is f left c.loop-left.row (omega (arith, ltb-false)) c.loop-left.invariant.3 in
     let z = c.number-size.ensures ∙ length-is f left c.loop-left.row (omega (arith, ltb-false)) c.loop-left.invariant.3 in
@@ -38,7 +38,7 @@ returns-in_err-body c =
 pub loop-left-preserved : goal.loop-left-preserved
 loop-left-preserved c =
     let f : List ℕ = c.args.file.now in
-    let n : ℕ = c.args.levels in
+    let n : ℕ = c.args.header.levels in
     let left : List ℕ = c.loop-left.left.now in
     let m = past-length 4 left in
     let s = c.number-start.ensures ∙ start_is f left c.loop-left.row (omega (arith, ltb-false)) c.loop-left.invariant.3 in
