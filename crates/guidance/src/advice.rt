@@ -9,7 +9,7 @@ ghost use Rattle.hisc.specs.Lines.{line_of};
 ghost use Rattle.hisc.specs.Points.{answer_enabled, at_rest, to_answer};
 ghost use Rattle.hisc.specs.Guide.{named, any_answer, answer_or, by_kind, homeward, low_distance, not_at_rest, guide};
 ghost use Rattle.charts.specs.Meanings.{chart_of};
-ghost use Rattle.walks.specs.Given.{line_from};
+ghost use Rattle.walks.specs.Given.{line_in};
 ghost use Rattle.walks.specs.Rows.{row_state};
 ghost use Rattle.guidance.specs.Ready.{Ready, Gives, lent, maybe, step_by};
 
@@ -19,11 +19,10 @@ use hisc::guide::Guidance;
 use model::kind::Kind;
 use search::answers::Way;
 use walks::aim::Aim;
+use walks::line::Line;
 use walks::part::Part;
 use walks::refusal::Refusal;
 use walks::row::Row;
-use walks::searches::nearest;
-use walks::states::possible_at;
 
 // The step that a way gives: at its end what stands there, else its first event.
 fn step(way: Way, there: Guidance) -> Guidance
@@ -48,11 +47,11 @@ fn is_answer(chart: &Chart, event: u8) -> bool
 }
 
 // The lowest answer that is possible in the level's walk.
-fn lowest_answer<B: Bank>(chart: &Chart, bank: &B, row: &Row, level: u8) -> Guidance
-    ensures { result ≡ named (first (chart_of chart.now).events (answer_enabled (line_from chart.now (B.list bank.now)) level (row_state row.now))) }
+fn lowest_answer<B: Bank>(line: &Line<B>, row: &Row, level: u8) -> Guidance
+    ensures { result ≡ named (first (chart_of line.now.chart).events (answer_enabled (line_in B.list line.now) level (row_state row.now))) }
 {
-    for event in 0..chart.events() {
-        if is_answer(chart, event) && possible_at(chart, bank, Part::Low(level), row, event) {
+    for event in 0..line.chart.events() {
+        if is_answer(&line.chart, event) && line.possible_at(Part::Low(level), row, event) {
             return Guidance::Event(event);
         }
     }
@@ -61,37 +60,35 @@ fn lowest_answer<B: Bank>(chart: &Chart, bank: &B, row: &Row, level: u8) -> Guid
 
 // Toward any answer of the level.
 fn toward_any<B: Bank>(
-    chart: &Chart,
-    bank: &B,
+    line: &Line<B>,
     row: &Row,
     level: u8,
     queue: &mut [u32],
     keys: &mut [u32],
 ) -> Result<Guidance, Refusal>
-    requires { IsLevel (chart_of chart.now) level }
-    ensures { Gives (line_from chart.now (B.list bank.now)) (row_state row.now) (lent queue.old keys.old)
+    requires { IsLevel (chart_of line.now.chart) level }
+    ensures { Gives (line_in B.list line.now) (row_state row.now) (lent queue.old keys.old)
         (λ l x. any_answer l level x) result }
 {
-    let way = nearest(chart, bank, Aim::AnyAnswer(level), row, queue, keys)?;
-    Ok(step(way, lowest_answer(chart, bank, row, level)))
+    let way = line.nearest(Aim::AnyAnswer(level), row, queue, keys)?;
+    Ok(step(way, lowest_answer(line, row, level)))
 }
 
 // Toward the answer of the level; with no word to it, toward any.
 fn toward_answer<B: Bank>(
-    chart: &Chart,
-    bank: &B,
+    line: &Line<B>,
     row: &Row,
     level: u8,
     event: u8,
     queue: &mut [u32],
     keys: &mut [u32],
 ) -> Result<Guidance, Refusal>
-    requires { IsLevel (chart_of chart.now) level }
-    ensures { Gives (line_from chart.now (B.list bank.now)) (row_state row.now) (lent queue.old keys.old)
+    requires { IsLevel (chart_of line.now.chart) level }
+    ensures { Gives (line_in B.list line.now) (row_state row.now) (lent queue.old keys.old)
         (λ l x. answer_or l level event x (low_distance l level (to_answer l level event) x)) result }
 {
-    match nearest(chart, bank, Aim::Answer { level, event }, row, queue, keys)? {
-        Way::Unreachable => toward_any(chart, bank, row, level, queue, keys),
+    match line.nearest(Aim::Answer { level, event }, row, queue, keys)? {
+        Way::Unreachable => toward_any(line, row, level, queue, keys),
         Way::Here => Ok(Guidance::Event(event)),
         Way::By { event, .. } => Ok(Guidance::Event(event)),
     }
@@ -99,23 +96,20 @@ fn toward_answer<B: Bank>(
 
 // Toward the wanted event, by its kind.
 fn toward_wanted<B: Bank>(
-    chart: &Chart,
-    bank: &B,
+    line: &Line<B>,
     row: &Row,
     event: u8,
     queue: &mut [u32],
     keys: &mut [u32],
 ) -> Result<Guidance, Refusal>
-    requires { event < (chart_of chart.now).events }
-    ensures { Gives (line_from chart.now (B.list bank.now)) (row_state row.now) (lent queue.old keys.old)
+    requires { event < (chart_of line.now.chart).events }
+    ensures { Gives (line_in B.list line.now) (row_state row.now) (lent queue.old keys.old)
         (λ l x. by_kind l (l.chart.kind event) event x) result }
 {
-    match (chart.kind(event), chart.owner(event)) {
+    match (line.chart.kind(event), line.chart.owner(event)) {
         (Some(Kind::High), _) => Ok(Guidance::Event(event)),
         (Some(Kind::Request), _) => Ok(Guidance::Event(event)),
-        (Some(Kind::Answer), Some(level)) => {
-            toward_answer(chart, bank, row, level, event, queue, keys)
-        }
+        (Some(Kind::Answer), Some(level)) => { toward_answer(line, row, level, event, queue, keys) }
         _ => Ok(Guidance::NoEvent),
     }
 }
@@ -131,11 +125,11 @@ fn at_rest<B: Bank>(bank: &B, row: &Row, level: u8) -> bool
 }
 
 // The lowest level whose plant or supervisor is unmarked.
-fn lowest_unrested<B: Bank>(chart: &Chart, bank: &B, row: &Row) -> Option<u8>
-    ensures { maybe result ≡ first (suc (chart_of chart.now).levels) (not_at_rest (line_from chart.now (B.list bank.now)) (row_state row.now)) }
+fn lowest_unrested<B: Bank>(line: &Line<B>, row: &Row) -> Option<u8>
+    ensures { maybe result ≡ first (suc (chart_of line.now.chart).levels) (not_at_rest (line_in B.list line.now) (row_state row.now)) }
 {
-    for level in 1..=chart.levels() {
-        if !at_rest(bank, row, level) {
+    for level in 1..=line.chart.levels() {
+        if !at_rest(&line.bank, row, level) {
             return Some(level);
         }
     }
@@ -144,36 +138,34 @@ fn lowest_unrested<B: Bank>(chart: &Chart, bank: &B, row: &Row) -> Option<u8>
 
 // Toward rest in the lowest level that is not at rest; home if there is none.
 fn toward_rest<B: Bank>(
-    chart: &Chart,
-    bank: &B,
+    line: &Line<B>,
     row: &Row,
     queue: &mut [u32],
     keys: &mut [u32],
 ) -> Result<Guidance, Refusal>
-    ensures { Gives (line_from chart.now (B.list bank.now)) (row_state row.now) (lent queue.old keys.old)
+    ensures { Gives (line_in B.list line.now) (row_state row.now) (lent queue.old keys.old)
         (λ l x. homeward l (first (suc l.chart.levels) (not_at_rest l x)) x) result }
 {
-    let Some(level) = lowest_unrested(chart, bank, row) else {
+    let Some(level) = lowest_unrested(line, row) else {
         return Ok(Guidance::Home);
     };
-    let way = nearest(chart, bank, Aim::AtRest(level), row, queue, keys)?;
+    let way = line.nearest(Aim::AtRest(level), row, queue, keys)?;
     Ok(step(way, Guidance::NoEvent))
 }
 
 // The guide's answer in the row's states.
 pub fn advice<B: Bank>(
-    chart: &Chart,
-    bank: &B,
+    line: &Line<B>,
     row: &Row,
     queue: &mut [u32],
     keys: &mut [u32],
 ) -> Result<Guidance, Refusal>
-    ensures value { IfOk result (λ g. g ≡ guide (line_from chart.now (B.list bank.now)) (row_state row.now)) }
-    ensures succeeds { Ready (line_from chart.now (B.list bank.now)) (row_state row.now) (lent queue.old keys.old) → is_ok result ≡ true }
+    ensures value { IfOk result (λ g. g ≡ guide (line_in B.list line.now) (row_state row.now)) }
+    ensures succeeds { Ready (line_in B.list line.now) (row_state row.now) (lent queue.old keys.old) → is_ok result ≡ true }
 {
-    match nearest(chart, bank, Aim::HighMarked, row, queue, keys)? {
+    match line.nearest(Aim::HighMarked, row, queue, keys)? {
         Way::Unreachable => Ok(Guidance::NoEvent),
-        Way::Here => toward_rest(chart, bank, row, queue, keys),
-        Way::By { event, .. } => toward_wanted(chart, bank, row, event, queue, keys),
+        Way::Here => toward_rest(line, row, queue, keys),
+        Way::By { event, .. } => toward_wanted(line, row, event, queue, keys),
     }
 }

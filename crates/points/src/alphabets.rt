@@ -5,7 +5,7 @@ ghost use Rattle.model.specs.Sets.{member};
 ghost use Rattle.hisc.specs.Lines.{WellMade, components};
 ghost use Rattle.hisc.specs.Points.{alphabet_of};
 ghost use Rattle.hisc.specs.Verdict.{alphabet_known, listed};
-ghost use Rattle.walks.specs.Given.{line_from};
+ghost use Rattle.walks.specs.Given.{line_from, line_in};
 ghost use Rattle.points.specs.Lowest.{alike, Found};
 ghost use Rattle.points.specs.Tried.{TriedAll};
 
@@ -13,6 +13,7 @@ use charts::chart::Chart;
 use generators::bank::Bank;
 use model::fault::Fault;
 use model::set::EventSet;
+use walks::line::Line;
 
 // The alphabet that the component is to know: its level's, an interface its own.
 fn alphabet(chart: &Chart, component: u8) -> EventSet
@@ -42,12 +43,12 @@ fn difference<B: Bank>(bank: &B, component: u8, alphabet: EventSet) -> Option<u8
 }
 
 // Tries the first point, component by component.
-pub(crate) fn alphabets_known<B: Bank>(chart: &Chart, bank: &B) -> Result<(), Fault>
-    requires { WellMade (line_from chart.now (B.list bank.now)) }
-    ensures { TriedAll (line_from chart.now (B.list bank.now)) (listed (components (line_from chart.now (B.list bank.now))) (λ c. alphabet_known c ∷ [])) result }
+pub(crate) fn alphabets_known<B: Bank>(line: &Line<B>) -> Result<(), Fault>
+    requires { WellMade (line_in B.list line.now) }
+    ensures { TriedAll (line_in B.list line.now) (listed (components (line_in B.list line.now)) (λ c. alphabet_known c ∷ [])) result }
 {
-    for component in 0..2 + 3 * chart.levels() {
-        if let Some(event) = difference(bank, component, alphabet(chart, component)) {
+    for component in 0..2 + 3 * line.chart.levels() {
+        if let Some(event) = difference(&line.bank, component, alphabet(&line.chart, component)) {
             let level = (component + 1) / 3;
             return Err(Fault::Alphabet {
                 level,

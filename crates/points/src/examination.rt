@@ -5,54 +5,52 @@ ghost use Rattle.hisc.specs.Lines.{WellMade, high, low};
 ghost use Rattle.hisc.specs.Sizes.{size, largest_walk};
 ghost use Rattle.hisc.specs.Verdict.{Verdict, tests};
 ghost use Rattle.points.specs.Examined.{cells_in, fault_in};
-ghost use Rattle.walks.specs.Given.{line_from};
+ghost use Rattle.walks.specs.Given.{line_in};
 ghost use Rattle.points.specs.Tried.{TriedAll};
 
 use crate::alphabets::alphabets_known;
 use crate::levels::{command_pairs, high_points, low_points};
-use charts::chart::Chart;
 use generators::bank::Bank;
 use measure::sizes::WalkSizes;
 use model::fault::{Fault, Layer};
+use walks::line::Line;
 
 // Tries the ten points in their order.
 fn ten_points<B: Bank>(
-    chart: &Chart,
-    bank: &B,
+    line: &Line<B>,
     first: &mut [u32],
     second: &mut [u32],
     third: &mut [u32],
 ) -> Result<(), Fault>
-    requires made { WellMade (line_from chart.now (B.list bank.now)) }
-    requires lows { (j : ℕ) → IsLevel (line_from chart.now (B.list bank.now)).chart j → size (line_from chart.now (B.list bank.now)) (low (line_from chart.now (B.list bank.now)) j) ≤ 4096 }
-    requires top { size (line_from chart.now (B.list bank.now)) (high (line_from chart.now (B.list bank.now))) ≤ 4096 }
-    requires first { largest_walk (line_from chart.now (B.list bank.now)) ≤ length first.old }
-    requires second { largest_walk (line_from chart.now (B.list bank.now)) ≤ length second.old }
-    requires third { largest_walk (line_from chart.now (B.list bank.now)) ≤ length third.old }
-    ensures { TriedAll (line_from chart.now (B.list bank.now)) (tests (line_from chart.now (B.list bank.now))) result }
+    requires made { WellMade (line_in B.list line.now) }
+    requires lows { (j : ℕ) → IsLevel (line_in B.list line.now).chart j → size (line_in B.list line.now) (low (line_in B.list line.now) j) ≤ 4096 }
+    requires top { size (line_in B.list line.now) (high (line_in B.list line.now)) ≤ 4096 }
+    requires first { largest_walk (line_in B.list line.now) ≤ length first.old }
+    requires second { largest_walk (line_in B.list line.now) ≤ length second.old }
+    requires third { largest_walk (line_in B.list line.now) ≤ length third.old }
+    ensures { TriedAll (line_in B.list line.now) (tests (line_in B.list line.now)) result }
 {
-    alphabets_known(chart, bank)?;
-    command_pairs(chart, bank, first, second)?;
-    low_points(chart, bank, first, second, third)?;
-    high_points(chart, bank, first, second, third)
+    alphabets_known(line)?;
+    command_pairs(line, first, second)?;
+    low_points(line, first, second, third)?;
+    high_points(line, first, second, third)
 }
 
 // Examines the line of the chart and the bank. The work cells may hold anything, and are left with anything.
 pub fn examine<B: Bank>(
-    chart: &Chart,
-    bank: &B,
+    line: &Line<B>,
     first: &mut [u32],
     second: &mut [u32],
     third: &mut [u32],
 ) -> Result<(), Fault>
-    ensures { Verdict (line_from chart.now (B.list bank.now)) (length (B.list bank.now)) (cells_in (length first.old) (length second.old) (length third.old)) (fault_in result) }
+    ensures { Verdict (line_in B.list line.now) (length (B.list line.now.bank)) (cells_in (length first.old) (length second.old) (length third.old)) (fault_in result) }
 {
-    let sizes = WalkSizes::of(chart, bank)?;
+    let sizes = WalkSizes::of(line)?;
     let shortest = first.len().min(second.len()).min(third.len());
     if shortest < sizes.largest() as usize {
         return Err(Fault::WorkCells {
             layer: Layer::Check,
         });
     }
-    ten_points(chart, bank, first, second, third)
+    ten_points(line, first, second, third)
 }

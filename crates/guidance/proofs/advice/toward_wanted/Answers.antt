@@ -8,7 +8,7 @@ use Rattle.guidance.proofs.advice.toward_wanted.Goals as goal
 
 pub toward_answer-requires : goal.toward_answer-requires
 toward_answer-requires g c =
-    let chart = c.args.chart.now in
+    let chart = c.args.line.now.chart in
     let told = c.in-Some-Answer-Some.ensures in
     let kind : kind_at (chart_of chart) c.args.event ≡ Some Answer = cc in
     owner-level (chart_of chart) (well-charted chart) c.args.event c.in-Some-Answer-Some.level kind (sym c.owner.ensures ∙ c.in-Some-Answer-Some.is-1)
