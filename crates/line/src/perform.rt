@@ -7,6 +7,7 @@ ghost use Rattle.points.specs.Examined.{cells_in};
 use crate::queue::{Call, Reply};
 use crate::running::Running;
 use generators::bank::Bank;
+use model::fault::Fault;
 
 impl<B: Bank> Running<B> {
     // Makes the call, with what is lent for it: a slice for the possible events, and three of work cells.
@@ -17,28 +18,22 @@ impl<B: Bank> Running<B> {
         first: &mut [u32],
         second: &mut [u32],
         third: &mut [u32],
-    ) -> Reply
-        ensures { Answered B.Bank.list self.old self.new (call_of (length out.old) (cells_in (length first.old) (length second.old) (length third.old)) call) (reply_of out.new result) }
+    ) -> Result<Reply, Fault>
+        ensures { Answered self.old self.new (call_of (length out.old) (cells_in (length first.old) (length second.old) (length third.old)) call) (reply_of out.new result) }
     {
-        match call {
-            Call::Offer(event) => match self.offer(event) {
-                Ok(()) => Reply::Accepted,
-                Err(fault) => Reply::Refused(fault),
-            },
-            Call::Guide => match self.guide(first, second, third) {
-                Ok(guidance) => Reply::Guided(guidance),
-                Err(fault) => Reply::Refused(fault),
-            },
-            Call::Possible => match self.possible(out) {
-                Ok(count) => Reply::Listed(count),
-                Err(fault) => Reply::Refused(fault),
-            },
+        Ok(match call {
+            Call::Offer(event) => {
+                self.offer(event)?;
+                Reply::Accepted
+            }
+            Call::Guide => Reply::Guided(self.guide(first, second, third)?),
+            Call::Possible => Reply::Listed(self.possible(out)?),
             Call::Look => Reply::Shown(self.look()),
             Call::Restart => {
                 self.restart();
                 Reply::Restarted
             }
-        }
+        })
     }
 
     // Makes the calls in turn, and returns how many were refused.
@@ -50,11 +45,11 @@ impl<B: Bank> Running<B> {
         second: &mut [u32],
         third: &mut [u32],
     ) -> usize
-        ensures { Performed B.Bank.list self.old self.new (length out.old) (cells_in (length first.old) (length second.old) (length third.old)) calls.now result }
+        ensures { Performed self.old self.new (length out.old) (cells_in (length first.old) (length second.old) (length third.old)) calls.now result }
     {
         let mut refused = 0;
         for call in calls {
-            if let Reply::Refused(_) = self.answer(*call, out, first, second, third) {
+            if self.answer(*call, out, first, second, third).is_err() {
                 refused += 1;
             }
         }

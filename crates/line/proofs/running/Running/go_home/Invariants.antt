@@ -5,4 +5,4 @@ use Rattle.line.proofs.running.Running.go_home.Given as goal
 
 abbrev pub invariant-loop-offers : goal.invariant-loop-offers
 invariant-loop-offers g l =
-    Going g.B.Bank.list l.initial.self (cells_in (length l.initial.first) (length l.initial.second) (length l.initial.third)) l.self l.offers
+    Going l.initial.self (cells_in (length l.initial.first) (length l.initial.second) (length l.initial.third)) l.self l.offers
