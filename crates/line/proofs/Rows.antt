@@ -2,7 +2,7 @@
 use Rattle.std.proofs.Common.{◌≡◌, ℕ, ◌≤◌, Bool, true, cond, ltb, List, length, get_or, sym, ap, ◌∙◌, inl, inr, arith}
 use Rattle.std.proofs.lemmas.List.{get_or_past, ext_get_or}
 use Rattle.std.proofs.lemmas.Bool.{cases_Bool, cases_lt, le-ltb, ltb-false}
-use Rattle.model.specs.Generators.{Gen, AllFormed}
+use Rattle.model.specs.Generators.{Gen, AllFormed, nothing}
 use Rattle.charts.specs.Meanings.{chart_of}
 use Rattle.charts.proofs.Rules.{well-charted}
 use Rattle.hisc.specs.Calls.{row, look}
@@ -51,13 +51,15 @@ module _ {B : Type 0} (list : B → List Gen) (given : Given B) (formed : AllFor
   pub assured-of : (row : Row) → Runs list given row → Assured line (row_state row)
   assured-of row r = assured line (made r.checked) r.checked.points (row_state row) r.reached
 
+  pub row-long : (row : Row) → Runs list given row → length row.states ≡ 26
+  row-long row r = ap length r.shown ∙ length-row 26 (λ c. cond (ltb c (components line)) (row_state row c) 0)
+
   -- a row of the initial states, and one after a possible event
-  pub runs-begin : Checked list given → (states : List ℕ) → length states ≡ 26 → ((c : ℕ) → components line ≤ c → get_or states c 0 ≡ 0) →
-      ◌≡◌ {A = State} (λ c. get_or states c 0) (initial line) → Runs list given (record { states = states })
-  runs-begin f states long beyond is = record {
+  pub runs-begin : Checked list given → (row : Row) → length row.states ≡ 26 → row_state row ≡ initial line → Runs list given row
+  runs-begin f row long is = record {
     checked = f;
     reached = begin (λ c lt i. ap (λ (x : State). x c) (sym is));
-    shown = shows line states long beyond;
+    shown = shows line row.states long (λ c ge. ap (λ (x : State). x c) is ∙ ap (λ (g : Gen). g.initial) (get_or_past (list given.bank) c nothing (omega (arith, f.sizes.complete))));
   }
 
   pub runs-step : (row : Row) → Runs list given row → (e : ℕ) → possible line (flat line) (row_state row) e ≡ true →

@@ -53,11 +53,13 @@ impl<B: Bank> Running<B> {
             return Err(Fault::EventNumber { event });
         }
         let mut states = self.row.states;
-        for component in 0..component_count(&line.chart) {
-            let Some(state) = follow(&line.bank, component, self.row.state(component), event) else {
+        let count = usize::from(component_count(&line.chart));
+        for (component, state) in states[..count].iter_mut().enumerate() {
+            let component = component as u8;
+            let Some(moved) = follow(&line.bank, component, *state, event) else {
                 return Err(Fault::Refused { component, event });
             };
-            states[component as usize] = state;
+            *state = moved;
         }
         Ok(Row { states })
     }
