@@ -1,13 +1,15 @@
 -- What the calls of a running line come to. Assumes nothing.
-use Rattle.std.proofs.Common.{◌≡◌, ℕ, Bool, false, cond, List, Ok, Err, sym, refl, ap, ◌∙◌, subst, inl, inr, arith}
+use Rattle.std.proofs.Common.{◌≡◌, ℕ, Bool, true, false, cond, Ok, Err, Result, is_ok, sym, refl, ap, ◌∙◌, subst, inl, inr, arith}
 use Rattle.std.proofs.lemmas.Bool.{cases_Bool}
 use Rattle.model.specs.Generators.{Gen, AllFormed}
 use Rattle.model.specs.declared.fault.Fault.{Fault}
+use Rattle.model.proofs.Finds.{never}
 use Rattle.generators.specs.declared.bank.Bank.{Ghosts}
 use Rattle.hisc.specs.Calls.{Call, Offer, Look, Restart, Reply, accepted, states, restarted, refused, offer_reply, reply, next}
 use Rattle.hisc.specs.Law.{Assured}
 use Rattle.hisc.specs.Lines.{Line, State, flat, initial, moved, possible}
 use Rattle.hisc.proofs.Replies.{possible_accepted, accepted_possible, calls-agree}
+use Rattle.walks.specs.declared.row.Row.{Row}
 use Rattle.line.specs.Answers.{shown, line_in, state_in, Answered}
 use Rattle.line.specs.Checked.{Runs}
 use Rattle.line.specs.Steps.{Stepped}
@@ -16,7 +18,7 @@ use Rattle.line.proofs.Known.{runs_in}
 use Rattle.line.proofs.Rows.{assured-of}
 
 -- an event that is refused is not possible
-pub refused-impossible : (l : Line) (x : State) (e : ℕ) (f : Fault) → offer_reply l x e ≡ refused f → possible l (flat l) x e ≡ false
+refused-impossible : (l : Line) (x : State) (e : ℕ) (f : Fault) → offer_reply l x e ≡ refused f → possible l (flat l) x e ≡ false
 refused-impossible l x e f h =
     elim (cases_Bool (possible l (flat l) x e)) [
       | inl t ↦ let q = possible_accepted l x e t in let z : ◌≡◌ {A = ℕ} 0 1 = cc in absurd (omega arith)
@@ -33,6 +35,16 @@ module _ {B : Type 0} {gh : Ghosts B} where
     moves = moves;
     assured = assured-of gh.list s.passed.line (gh.formed s.passed.line.bank) s.row (runs_in s);
   }
+
+  -- an event is possible exactly if a step by it gives a row
+  module _ (s : Running B gh) (e : ℕ) where
+    pub stepped-possible : (r : Result Row Fault) → is_ok r ≡ true → Stepped gh.list s.passed.line (state_in s) e r → possible (line_in s) (flat (line_in s)) (state_in s) e ≡ true
+    stepped-possible (Ok row) t h = accepted_possible (line_in s) (state_in s) e h.0
+    stepped-possible (Err f) t h = never t refl
+
+    pub stepped-impossible : (r : Result Row Fault) → is_ok r ≡ false → Stepped gh.list s.passed.line (state_in s) e r → possible (line_in s) (flat (line_in s)) (state_in s) e ≡ false
+    stepped-impossible (Ok row) n h = never refl n
+    stepped-impossible (Err f) n h = refused-impossible (line_in s) (state_in s) e f h
 
   -- a call that puts a row
   pub answered-put : (before after : Running B gh) → after.passed.line ≡ before.passed.line → Runs gh.list before.passed.line after.row →

@@ -14,7 +14,7 @@ use Rattle.line.specs.declared.queue.Reply.{Reply as ReplyGiven}
 use Rattle.line.specs.declared.queue.Reply.TheVariants.{Accepted, Guided, Listed, Shown, Restarted}
 use Rattle.line.specs.declared.running.Running.{Running}
 
-abbrev one_if : Bool → ℕ
+abbrev pub one_if : Bool → ℕ
 one_if b = cond b 1 0
 
 -- the errors are what stands for refusals
