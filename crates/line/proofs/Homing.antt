@@ -14,7 +14,6 @@ use Rattle.hisc.specs.Lines.{Line, State, flat, moved, possible}
 use Rattle.hisc.specs.Sizes.{Cells, enough, bound}
 use Rattle.hisc.proofs.Laws.{asked, offered as offered-reply}
 use Rattle.hisc.proofs.Replies.{possible_accepted}
-use Rattle.points.specs.Examined.{cells_in}
 use Rattle.line.specs.Answers.{line_in, state_in, Answered}
 use Rattle.line.specs.Checked.{line_given}
 use Rattle.line.specs.Home.{WentHome, NotGuided}
@@ -77,15 +76,13 @@ module _ (l : Line) where
         | inr n ↦ (let q = t ∙ ap (λ (b : Bool). cond b (guidance (guide l x)) (refused (WorkCells Run))) n in (n, cc))
       ]
 
-pub same-cells : (a b c i j k : ℕ) → a ≡ i → b ≡ j → c ≡ k → cells_in a b c ≡ cells_in i j k
-same-cells a b c i j k p q r = ap (λ (m : ℕ). cells_in m b c) p ∙ ap (λ (m : ℕ). cells_in i m c) q ∙ ap (cells_in i j) r
-
 module _ {B : Type 0} {gh : Ghosts B} (first : Running B gh) (cells : Cells) where
   abbrev line : Line
   line = line_in first
 
   -- n offers were made
-  pub record Going (now : Running B gh) (n : ℕ) : Type 0 where
+  pub record Going (now : Running B gh) (used : Cells) (n : ℕ) : Type 0 where
+    pub lent : used ≡ cells
     pub same_line : now.passed.line ≡ first.passed.line
     pub word : List ℕ
     pub counted : length word ≡ n
@@ -94,9 +91,10 @@ module _ {B : Type 0} {gh : Ghosts B} (first : Running B gh) (cells : Cells) whe
     pub left : 0 < n → HomeWithin line (bound line - n) (state_in now)
     pub asked : 0 < n → enough line cells ≡ true
 
-  pub going-none : Going first 0
+  pub going-none : Going first cells 0
   unfolding Walked
   going-none = record {
+    lent = refl;
     same_line = refl;
     word = [];
     counted = refl;
@@ -106,7 +104,7 @@ module _ {B : Type 0} {gh : Ghosts B} (first : Running B gh) (cells : Cells) whe
     asked = λ h. absurd (omega arith);
   }
 
-  module _ (now : Running B gh) (n : ℕ) (p : Going now n) where
+  module _ (now : Running B gh) (used : Cells) (n : ℕ) (p : Going now used n) where
     same : line_in now ≡ line
     same = ap (line_given gh.list) p.same_line
 
@@ -117,73 +115,73 @@ module _ {B : Type 0} {gh : Ghosts B} (first : Running B gh) (cells : Cells) whe
     within zero z a = let q : bound line ≡ bound line - n = omega arith in subst (λ (k : ℕ). HomeWithin line k (state_in now)) q a.home_within
     within (suc m) z a = p.left (omega arith)
 
-    module _ (used : Cells) (lent : used ≡ cells) where
-      told : (answer : Reply) → Answered now now (Guide used) answer → answer ≡ reply line (state_in now) (Guide cells)
-      told answer a =
-          a.told ∙ ap (λ (l : Line). reply l (state_in now) (Guide used)) same ∙ ap (λ (k : Cells). reply line (state_in now) (Guide k)) lent
+    told : (answer : Reply) → Answered now now (Guide used) answer → answer ≡ reply line (state_in now) (Guide cells)
+    told answer a =
+        a.told ∙ ap (λ (l : Line). reply l (state_in now) (Guide used)) same ∙ ap (λ (k : Cells). reply line (state_in now) (Guide k)) p.lent
 
-      -- the guide named an event, and it was offered
-      pub going_more : (then : Running B gh) (e : ℕ) → Answered now now (Guide used) (guidance (Event e)) → Answered now then (Offer e) accepted → Going then (n + 1)
-      going_more then e a o =
-          let g = told-event line (state_in now) cells (Event e) (told (guidance (Event e)) a) in
-          let s = here a.assured in
-          let t = s.named_possible e g.1 in
-          let k = nearer line (bound line - n) (state_in now) e (within n refl s) g.1 in
-          let moves : state_in then ≡ moved line (state_in now) e =
-          o.moves ∙ ap (λ (l : Line). next l (state_in now) (Offer e)) same ∙ ap (λ (b : Bool). cond b (moved line (state_in now) e) (state_in now)) t in
-          let less : k.less ≡ bound line - (n + 1) = omega (arith, k.one) in
-          record {
-            same_line = o.same_line ∙ p.same_line;
-            word = p.word ++ (e ∷ []);
-            counted = length-append p.word (e ∷ []) ∙ ap (λ (m : ℕ). m + 1) p.counted;
-            few = omega (arith, k.one);
-            walked = subst (Walked line (state_in first) (p.word ++ (e ∷ []))) (sym moves) (walked_more line (state_in first) p.word (state_in now) e g.1 t p.walked);
-            left = λ h. subst (HomeWithin line (bound line - (n + 1))) (sym moves) (subst (λ (m : ℕ). HomeWithin line m (moved line (state_in now) e)) less k.rest);
-            asked = λ h. g.0;
-          }
+    -- the guide named an event, and it was offered
+    pub going_more : (then : Running B gh) (e : ℕ) → Answered now now (Guide used) (guidance (Event e)) → Answered now then (Offer e) accepted → (left : Cells) → left ≡ used → Going then left (n + 1)
+    going_more then e a o left kept =
+        let g = told-event line (state_in now) cells (Event e) (told (guidance (Event e)) a) in
+        let s = here a.assured in
+        let t = s.named_possible e g.1 in
+        let k = nearer line (bound line - n) (state_in now) e (within n refl s) g.1 in
+        let moves : state_in then ≡ moved line (state_in now) e =
+        o.moves ∙ ap (λ (l : Line). next l (state_in now) (Offer e)) same ∙ ap (λ (b : Bool). cond b (moved line (state_in now) e) (state_in now)) t in
+        let less : k.less ≡ bound line - (n + 1) = omega (arith, k.one) in
+        record {
+          lent = kept ∙ p.lent;
+          same_line = o.same_line ∙ p.same_line;
+          word = p.word ++ (e ∷ []);
+          counted = length-append p.word (e ∷ []) ∙ ap (λ (m : ℕ). m + 1) p.counted;
+          few = omega (arith, k.one);
+          walked = subst (Walked line (state_in first) (p.word ++ (e ∷ []))) (sym moves) (walked_more line (state_in first) p.word (state_in now) e g.1 t p.walked);
+          left = λ h. subst (HomeWithin line (bound line - (n + 1))) (sym moves) (subst (λ (m : ℕ). HomeWithin line m (moved line (state_in now) e)) less k.rest);
+          asked = λ h. g.0;
+        }
 
-      -- what the guide names is never refused
-      pub going-accepted : (then : Running B gh) (e : ℕ) (f : Fault) → Answered now now (Guide used) (guidance (Event e)) → Answered now then (Offer e) (refused f) → ⊥
-      going-accepted then e f a o =
-          let g = told-event line (state_in now) cells (Event e) (told (guidance (Event e)) a) in
-          let q = possible_accepted line (state_in now) e ((here a.assured).named_possible e g.1) in
-          let r = o.told ∙ ap (λ (l : Line). reply l (state_in now) (Offer e)) same ∙ q in
-          let z : ◌≡◌ {A = ℕ} 0 1 = cc in omega arith
+    -- what the guide names is never refused
+    pub going-accepted : (then : Running B gh) (e : ℕ) (f : Fault) → Answered now now (Guide used) (guidance (Event e)) → Answered now then (Offer e) (refused f) → ⊥
+    going-accepted then e f a o =
+        let g = told-event line (state_in now) cells (Event e) (told (guidance (Event e)) a) in
+        let q = possible_accepted line (state_in now) e ((here a.assured).named_possible e g.1) in
+        let r = o.told ∙ ap (λ (l : Line). reply l (state_in now) (Offer e)) same ∙ q in
+        let z : ◌≡◌ {A = ℕ} 0 1 = cc in omega arith
 
-      homed : Answered now now (Guide used) (guidance Home) → WentHome first now cells n
-      homed a =
-          let g = told-event line (state_in now) cells Home (told (guidance Home) a) in
-          record {
-            word = p.word;
-            counted = p.counted;
-            short = p.few;
-            named = walked-replies line cells g.0 (state_in first) p.word (state_in now) p.walked g.1;
-            same_line = p.same_line;
-            moves = sym (walked-after line cells g.0 (state_in first) p.word (state_in now) p.walked);
-            home = (here a.assured).home_marked g.1;
-          }
+    homed : Answered now now (Guide used) (guidance Home) → WentHome first now cells n
+    homed a =
+        let g = told-event line (state_in now) cells Home (told (guidance Home) a) in
+        record {
+          word = p.word;
+          counted = p.counted;
+          short = p.few;
+          named = walked-replies line cells g.0 (state_in first) p.word (state_in now) p.walked g.1;
+          same_line = p.same_line;
+          moves = sym (walked-after line cells g.0 (state_in first) p.word (state_in now) p.walked);
+          home = (here a.assured).home_marked g.1;
+        }
 
-      lost : Answered now now (Guide used) (guidance NoEvent) → ⊥
-      lost a =
-          let g = told-event line (state_in now) cells NoEvent (told (guidance NoEvent) a) in
-          (here a.assured).always_named g.1
+    lost : Answered now now (Guide used) (guidance NoEvent) → ⊥
+    lost a =
+        let g = told-event line (state_in now) cells NoEvent (told (guidance NoEvent) a) in
+        (here a.assured).always_named g.1
 
-      -- where the guide names no event, it says home
-      pub going-home : (g : Guidance) → ((e : ℕ) → g ≡ Event e → ⊥) → Answered now now (Guide used) (guidance g) → WentHome first now cells n
-      going-home Home none a = homed a
-      going-home NoEvent none a = absurd (lost a)
-      going-home (Event e) none a = absurd (none e refl)
+    -- where the guide names no event, it says home
+    pub going-home : (g : Guidance) → ((e : ℕ) → g ≡ Event e → ⊥) → Answered now now (Guide used) (guidance g) → WentHome first now cells n
+    going-home Home none a = homed a
+    going-home NoEvent none a = absurd (lost a)
+    going-home (Event e) none a = absurd (none e refl)
 
-      pub going-short : (f : Fault) → Answered now now (Guide used) (refused f) → NotGuided first now cells f
-      going-short f a =
-          let g = told-refused line (state_in now) cells f (told (refused f) a) in
-          record {
-            refusal = g.1;
-            few = g.0;
-            same_line = p.same_line;
-            stays = sym (walked_none line (state_in first) p.word (state_in now) (p.counted ∙ never-asked n refl g.0) p.walked);
-          }
-        where
-          never-asked : (m : ℕ) → m ≡ n → enough line cells ≡ false → n ≡ 0
-          never-asked zero z h = sym z
-          never-asked (suc m) z h = let q = p.asked (omega arith) in absurd (let y : ◌≡◌ {A = ℕ} 0 1 = cc in omega arith)
+    pub going-short : (f : Fault) → Answered now now (Guide used) (refused f) → NotGuided first now cells f
+    going-short f a =
+        let g = told-refused line (state_in now) cells f (told (refused f) a) in
+        record {
+          refusal = g.1;
+          few = g.0;
+          same_line = p.same_line;
+          stays = sym (walked_none line (state_in first) p.word (state_in now) (p.counted ∙ never-asked n refl g.0) p.walked);
+        }
+      where
+        never-asked : (m : ℕ) → m ≡ n → enough line cells ≡ false → n ≡ 0
+        never-asked zero z h = sym z
+        never-asked (suc m) z h = let q = p.asked (omega arith) in absurd (let y : ◌≡◌ {A = ℕ} 0 1 = cc in omega arith)

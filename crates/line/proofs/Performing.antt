@@ -34,19 +34,21 @@ module _ {B : Type 0} {gh : Ghosts B} (first : Running B gh) (bytes : ℕ) (cell
   calls q = map (call_of bytes cells) q
 
   -- the first i calls are performed, and count of them were refused
-  pub record Performing (now : Running B gh) (i count : ℕ) : Type 0 where
+  pub record Performing (now : Running B gh) (used : Cells) (i count : ℕ) : Type 0 where
+    pub lent : used ≡ cells
     pub few : count ≤ i
     pub same_line : now.passed.line ≡ first.passed.line
     pub left : after line (state_in now) (calls (drop i queue)) ≡ after line (state_in first) (calls queue)
     pub counted : count + refusals (replies line (state_in now) (calls (drop i queue))) ≡ refusals (replies line (state_in first) (calls queue))
 
-  pub performing-none : Performing first 0 0
-  performing-none = record { few = omega arith; same_line = refl; left = refl; counted = omega arith }
+  pub performing-none : Performing first cells 0 0
+  performing-none = record { lent = refl; few = omega arith; same_line = refl; left = refl; counted = omega arith }
 
-  pub performing-more : (now then : Running B gh) (i count : ℕ) (d : CallGiven) (room : ℕ) (used : Cells) → room ≡ bytes → used ≡ cells → (answer : Reply) (b : Bool) → is_refused answer ≡ b → i < length queue →
-      Answered now then (call_of room used (get_or queue i d)) answer → Performing now i count → Performing then (i + 1) (count + one_if b)
-  performing-more now then i count d room used same-room same-used answer b is lt a p =
+  pub performing-more : (now then : Running B gh) (i count : ℕ) (d : CallGiven) (room : ℕ) (used left : Cells) → room ≡ bytes → left ≡ used → (answer : Reply) (b : Bool) → is_refused answer ≡ b → i < length queue →
+      Answered now then (call_of room used (get_or queue i d)) answer → Performing now used i count → Performing then left (i + 1) (count + one_if b)
+  performing-more now then i count d room used left same-room kept answer b is lt a p =
       record {
+        lent = kept ∙ p.lent;
         few = most b;
         same_line = a.same_line ∙ p.same_line;
         left = ap (λ (y : State). after line y (calls rest)) moved ∙ sym (ap (λ (w : List CallGiven). after line x (calls w)) here) ∙ p.left;
@@ -63,7 +65,7 @@ module _ {B : Type 0} {gh : Ghosts B} (first : Running B gh) (bytes : ℕ) (cell
       here = drop_more queue i d lt
 
       made : call_of room used (get_or queue i d) ≡ call
-      made = ap (λ (n : ℕ). call_of n used (get_or queue i d)) same-room ∙ ap (λ (k : Cells). call_of bytes k (get_or queue i d)) same-used
+      made = ap (λ (n : ℕ). call_of n used (get_or queue i d)) same-room ∙ ap (λ (k : Cells). call_of bytes k (get_or queue i d)) p.lent
 
       x : State
       x = state_in now
@@ -82,8 +84,8 @@ module _ {B : Type 0} {gh : Ghosts B} (first : Running B gh) (bytes : ℕ) (cell
       most : (t : Bool) → count + one_if t ≤ i + 1
       most t = elim t as (λ t. count + one_if t ≤ i + 1) [ true ↦ omega (arith, p.few) | false ↦ omega (arith, p.few) ]
 
-  pub performing-all : (now : Running B gh) (i count : ℕ) → length queue ≤ i → Performing now i count → Performed first now bytes cells queue count
-  performing-all now i count ge p =
+  pub performing-all : (now : Running B gh) (used : Cells) (i count : ℕ) → length queue ≤ i → Performing now used i count → Performed first now bytes cells queue count
+  performing-all now used i count ge p =
       let none = drop_all i queue ge in
       record {
         counted = omega (arith, ap (λ (w : List CallGiven). refusals (replies line (state_in now) (calls w))) none, p.counted);

@@ -7,8 +7,9 @@ ghost use Rattle.hisc.specs.Sizes.{bound};
 ghost use Rattle.line.specs.Answers.{offered, guided, written, listed, shown, line_in, state_in, Answered};
 ghost use Rattle.line.specs.Checked.{line_given};
 ghost use Rattle.line.specs.Home.{Homeward};
-ghost use Rattle.points.specs.Examined.{cells_in};
+ghost use Rattle.line.specs.Lent.{lent};
 
+use crate::cells::Cells;
 use crate::passed::Passed;
 use crate::running::Running;
 use generators::bank::Bank;
@@ -58,20 +59,16 @@ impl<B: Bank> Running<B> {
     }
 
     // What to offer next on the way home. Three slices of work cells are lent; nothing else changes.
-    pub fn guide(
-        &self,
-        first: &mut [u32],
-        second: &mut [u32],
-        third: &mut [u32],
-    ) -> Result<Guidance, Fault>
-        ensures { Answered self.now self.now (Guide (cells_in (length first.old) (length second.old) (length third.old))) (guided result) }
+    pub fn guide(&self, cells: &mut Cells<'_>) -> Result<Guidance, Fault>
+        ensures answered { Answered self.now self.now (Guide (lent cells.old)) (guided result) }
+        ensures lengths { lent cells.new ≡ lent cells.old }
     {
-        let shortest = first.len().min(second.len()).min(third.len());
+        let shortest = cells.first.len().min(cells.second.len()).min(cells.third.len());
         if shortest < self.passed.sizes().largest() as usize {
             return Err(Fault::WorkCells { layer: Layer::Run });
         }
         let line = &self.passed.line;
-        Ok(advice(&line.chart, &line.bank, &self.row, first, second).unwrap())
+        Ok(advice(&line.chart, &line.bank, &self.row, cells.first, cells.second).unwrap())
     }
 
     // The states of the components, 0 beyond the last.
@@ -99,16 +96,12 @@ impl<B: Bank> Running<B> {
     }
 
     // Asks the guide and offers what it names until it says home. Returns how many offers that took.
-    pub fn go_home(
-        &mut self,
-        first: &mut [u32],
-        second: &mut [u32],
-        third: &mut [u32],
-    ) -> Result<u64, Fault>
-        ensures { Homeward self.old self.new (cells_in (length first.old) (length second.old) (length third.old)) result }
+    pub fn go_home(&mut self, cells: &mut Cells<'_>) -> Result<u64, Fault>
+        ensures home { Homeward self.old self.new (lent cells.old) result }
+        ensures lengths { lent cells.new ≡ lent cells.old }
     {
         for offers in 0..=self.most_offers() {
-            let Guidance::Event(event) = self.guide(first, second, third)? else {
+            let Guidance::Event(event) = self.guide(cells)? else {
                 return Ok(offers);
             };
             self.offer(event)?;

@@ -1,10 +1,11 @@
 // The check: it takes a line, and hands over a passed line, or the first fault and the line.
-ghost use Rattle.std.specs.Prelude.{◌≡◌, length};
+ghost use Rattle.std.specs.Prelude.{◌≡◌};
 ghost use Rattle.line.specs.Checked.{line_given};
 ghost use Rattle.line.specs.Judged.{Judged};
-ghost use Rattle.points.specs.Examined.{cells_in};
+ghost use Rattle.line.specs.Lent.{lent};
 ghost use Rattle.measure.specs.Measured.{sizes_of};
 
+use crate::cells::Cells;
 use crate::line::Line;
 use crate::passed::Passed;
 use generators::bank::Bank;
@@ -13,15 +14,11 @@ use model::fault::Fault;
 use points::examination::examine;
 
 // Tries the ten points, each level alone. A line that passes keeps the law over every queue of calls.
-pub fn check<B: Bank>(
-    line: Line<B>,
-    first: &mut [u32],
-    second: &mut [u32],
-    third: &mut [u32],
-) -> Result<Passed<B>, (Fault, Line<B>)>
-    ensures { Judged line (cells_in (length first.old) (length second.old) (length third.old)) result }
+pub fn check<B: Bank>(line: Line<B>, cells: &mut Cells<'_>) -> Result<Passed<B>, (Fault, Line<B>)>
+    ensures judged { Judged line (lent cells.old) result }
+    ensures lengths { lent cells.new ≡ lent cells.old }
 {
-    match examine(&line.chart, &line.bank, first, second, third) {
+    match examine(&line.chart, &line.bank, cells.first, cells.second, cells.third) {
         Ok(()) => Ok(Passed { line }),
         Err(fault) => Err((fault, line)),
     }

@@ -1,9 +1,10 @@
 // Calls as values, and queues of them.
-ghost use Rattle.std.specs.Prelude.{length};
+ghost use Rattle.std.specs.Prelude.{◌≡◌, length};
 ghost use Rattle.line.specs.Answers.{Answered};
 ghost use Rattle.line.specs.Queues.{call_of, reply_of, Performed};
-ghost use Rattle.points.specs.Examined.{cells_in};
+ghost use Rattle.line.specs.Lent.{lent};
 
+use crate::cells::Cells;
 use crate::queue::{Call, Reply};
 use crate::running::Running;
 use generators::bank::Bank;
@@ -15,18 +16,17 @@ impl<B: Bank> Running<B> {
         &mut self,
         call: Call,
         out: &mut [u8],
-        first: &mut [u32],
-        second: &mut [u32],
-        third: &mut [u32],
+        cells: &mut Cells<'_>,
     ) -> Result<Reply, Fault>
-        ensures { Answered self.old self.new (call_of (length out.old) (cells_in (length first.old) (length second.old) (length third.old)) call) (reply_of out.new result) }
+        ensures answered { Answered self.old self.new (call_of (length out.old) (lent cells.old) call) (reply_of out.new result) }
+        ensures lengths { lent cells.new ≡ lent cells.old }
     {
         Ok(match call {
             Call::Offer(event) => {
                 self.offer(event)?;
                 Reply::Accepted
             }
-            Call::Guide => Reply::Guided(self.guide(first, second, third)?),
+            Call::Guide => Reply::Guided(self.guide(cells)?),
             Call::Possible => Reply::Listed(self.possible(out)?),
             Call::Look => Reply::Shown(self.look()),
             Call::Restart => {
@@ -37,19 +37,13 @@ impl<B: Bank> Running<B> {
     }
 
     // Makes the calls in turn, and returns how many were refused.
-    pub fn perform(
-        &mut self,
-        calls: &[Call],
-        out: &mut [u8],
-        first: &mut [u32],
-        second: &mut [u32],
-        third: &mut [u32],
-    ) -> usize
-        ensures { Performed self.old self.new (length out.old) (cells_in (length first.old) (length second.old) (length third.old)) calls.now result }
+    pub fn perform(&mut self, calls: &[Call], out: &mut [u8], cells: &mut Cells<'_>) -> usize
+        ensures performed { Performed self.old self.new (length out.old) (lent cells.old) calls.now result }
+        ensures lengths { lent cells.new ≡ lent cells.old }
     {
         let mut refused = 0;
         for call in calls {
-            if self.answer(*call, out, first, second, third).is_err() {
+            if self.answer(*call, out, cells).is_err() {
                 refused += 1;
             }
         }
