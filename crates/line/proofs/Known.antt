@@ -43,8 +43,8 @@ module _ (p : ℕ → Bool) where
   unfolding Least
   passes-again h =
       let r : ((k : ℕ) × Least k) = ∥∥₁_elim h
-          (λ u w. Σ_prop_path (λ k. ×_prop (Bool-set _ _) (Π_prop (λ i. Π_prop (λ lt. Bool-set _ _)))) (one-least u.0 w.0 u.1 w.1))
-          (λ t. let f = first_some (suc t.0) p t.0 (omega arith) t.1 in (f.0, (f.2.holds, f.2.before))) in
+      (λ u w. Σ_prop_path (λ k. ×_prop (Bool-set _ _) (Π_prop (λ i. Π_prop (λ lt. Bool-set _ _)))) (one-least u.0 w.0 u.1 w.1))
+      (λ t. let f = first_some (suc t.0) p t.0 (omega arith) t.1 in (f.0, (f.2.holds, f.2.before))) in
       (r.0, r.1.0)
 
 word-again : {S : Type 0} (a : Automaton S) → ((s : S) (e : ℕ) → a.enabled s e ≡ true → e < a.events) → (s : S) → ∥ Coreachable a s ∥₁ → Coreachable a s
@@ -83,7 +83,7 @@ module _ (l : Line) where
     reached-again : ∥ Reached l (flat l) x ∥₁ → Reached l (flat l) x
     reached-again h =
         let w = word-again to (λ y e p. ltb-true e l.chart.events (possible-alphabet l (flat l) y e p)) (initial l)
-            (∥∥₁_map h (λ r. way-to r [] (all_from (components l) (λ c. eqb (x c) (x c)) (λ c lt. eq-eqb (x c) (x c) refl)))) in
+        (∥∥₁_map h (λ r. way-to r [] (all_from (components l) (λ c. eqb (x c) (x c)) (λ c lt. eq-eqb (x c) (x c) refl)))) in
         way-back w.0 (initial l) (begin (λ c lt i. refl)) w.1
 
   module _ (h : ∥ Points l ∥₁) where

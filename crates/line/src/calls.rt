@@ -48,6 +48,7 @@ impl<B: Bank> Running<B> {
         if out.len() < 64 {
             return Err(Fault::PossibleSlice);
         }
+        // The count is the answer, so a chain would carry it too.
         let mut count = 0;
         for event in 0..self.passed.line.chart.events() {
             if self.step(event).is_ok() {
@@ -63,12 +64,23 @@ impl<B: Bank> Running<B> {
         ensures answered { Answered self.now self.now (Guide (lent cells.old)) (guided result) }
         ensures lengths { lent cells.new ≡ lent cells.old }
     {
-        let shortest = cells.first.len().min(cells.second.len()).min(cells.third.len());
+        let shortest = cells
+            .first
+            .len()
+            .min(cells.second.len())
+            .min(cells.third.len());
         if shortest < self.passed.sizes().largest() as usize {
             return Err(Fault::WorkCells { layer: Layer::Run });
         }
         let line = &self.passed.line;
-        Ok(advice(&line.chart, &line.bank, &self.row, cells.first, cells.second).unwrap())
+        Ok(advice(
+            &line.chart,
+            &line.bank,
+            &self.row,
+            cells.first,
+            cells.second,
+        )
+        .unwrap())
     }
 
     // The states of the components, 0 beyond the last.

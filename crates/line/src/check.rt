@@ -18,7 +18,14 @@ pub fn check<B: Bank>(line: Line<B>, cells: &mut Cells<'_>) -> Result<Passed<B>,
     ensures judged { Judged line (lent cells.old) result }
     ensures lengths { lent cells.new ≡ lent cells.old }
 {
-    match examine(&line.chart, &line.bank, cells.first, cells.second, cells.third) {
+    // A `match`, since each arm moves the line.
+    match examine(
+        &line.chart,
+        &line.bank,
+        cells.first,
+        cells.second,
+        cells.third,
+    ) {
         Ok(()) => Ok(Passed { line }),
         Err(fault) => Err((fault, line)),
     }

@@ -41,6 +41,7 @@ impl<B: Bank> Running<B> {
         ensures performed { Performed self.old self.new (length out.old) (lent cells.old) calls.now result }
         ensures lengths { lent cells.new ≡ lent cells.old }
     {
+        // Tried as a chain: the proof knows nothing of what a closure returned that changes what it captures.
         let mut refused = 0;
         for call in calls {
             if self.answer(*call, out, cells).is_err() {

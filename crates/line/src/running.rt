@@ -15,6 +15,8 @@ pub struct Running<B: Bank> {
     ghost runs: { ∥ Runs B.Bank.list passed.line row ∥₁ },
 }
 
+// The three calls of a passed line again: these tell what is known of a running one.
+#[tactic(auto, using(crate::proofs::Known::runs_in))]
 impl<B: Bank> Running<B> {
     // The bank again; the running line is used up.
     pub fn unseal(self) -> B
