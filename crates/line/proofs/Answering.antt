@@ -1,13 +1,11 @@
 -- What the calls of a running line come to. Assumes nothing.
-use Rattle.std.proofs.Common.{◌≡◌, ℕ, Bool, true, false, cond, Ok, Err, Result, is_ok, sym, refl, ap, ◌∙◌, subst, inl, inr, arith}
+use Rattle.std.proofs.Common.{◌≡◌, ℕ, Bool, true, false, cond, Ok, Err, Result, is_ok, sym, refl, ap, ◌∙◌, inl, inr, arith}
 use Rattle.std.proofs.lemmas.Bool.{cases_Bool}
-use Rattle.model.specs.Generators.{Gen, AllFormed}
 use Rattle.model.specs.declared.fault.Fault.{Fault}
 use Rattle.model.proofs.Finds.{never}
 use Rattle.generators.specs.declared.bank.Bank.{Ghosts}
-use Rattle.hisc.specs.Calls.{Call, Offer, Look, Restart, Reply, accepted, states, restarted, refused, offer_reply, reply, next}
-use Rattle.hisc.specs.Law.{Assured}
-use Rattle.hisc.specs.Lines.{Line, State, flat, initial, moved, possible}
+use Rattle.hisc.specs.Calls.{Call, Offer, Look, Reply, accepted, states, refused, offer_reply, reply, next}
+use Rattle.hisc.specs.Lines.{Line, State, flat, moved, possible}
 use Rattle.hisc.proofs.Replies.{possible_accepted, accepted_possible, calls-agree}
 use Rattle.walks.specs.declared.row.Row.{Row}
 use Rattle.line.specs.Answers.{shown, line_in, state_in, Answered}

@@ -1,5 +1,5 @@
 -- What is known only to be so of a line is found again: a word is searched for by its length. Assumes nothing.
-use Rattle.std.proofs.Common.{◌≡◌, ℕ, suc, ◌<◌, Bool, true, false, eqb, List, [], ◌∷◌, length, sym, refl, ◌∙◌, subst, inl, inr, arith}
+use Rattle.std.proofs.Common.{◌≡◌, ℕ, suc, ◌<◌, Bool, true, false, eqb, List, [], ◌∷◌, length, refl, subst, inl, inr, arith}
 use Rattle.std.proofs.Math.Logic.{∥∥₁_elim, ∥∥₁_map}
 use mathlib.Core.HLevel.{Σ_prop_path, ×_prop, Π_prop}
 use mathlib.Core.Bool.{Bool-set}
@@ -13,7 +13,6 @@ use Rattle.model.proofs.Words.{leads-reach, leads-like, reach-word}
 use Rattle.generators.specs.declared.bank.Bank.{Ghosts}
 use Rattle.hisc.specs.Lines.{Line, State, components, flat, high, low, initial, moved, possible, Same, Reached, begin, step}
 use Rattle.hisc.specs.Points.{low_enabled, high_automaton, low_automaton, to_rest, to_answer, Points}
-use Rattle.hisc.specs.Verdict.{SizesFit}
 use Rattle.hisc.proofs.Facts.{low_below, high-below, low_enabled-parts}
 use Rattle.hisc.proofs.Walks.{possible-alphabet, possible-like, moved-like, same-sym, reached-same}
 use Rattle.walks.specs.Rows.{row_state}

@@ -3,7 +3,7 @@ use Rattle.std.proofs.Common.{Option as Maybe, ◌≡◌, ℕ, zero, suc, ◌+�
 use mathlib.Core.Path.{fun_ext}
 use mathlib.Core.Option.{Option}
 use Rattle.std.proofs.lemmas.List.{length-append, get_or_append_left, get_or_past, get_or-set_same, get_or-set_other, set-append_left}
-use Rattle.std.proofs.lemmas.Bool.{cases_Bool, cases_lt, lt-ltb, le-ltb, or_from, not_from_true, not_from_false}
+use Rattle.std.proofs.lemmas.Bool.{cases_Bool, cases_lt, lt-ltb, or_from, not_from_true, not_from_false}
 use Rattle.model.specs.Charts.{EventChart}
 use Rattle.model.specs.Generators.{Gen, AllFormed, nothing, is_to, target, permits, forbids, moves}
 use Rattle.model.specs.declared.next.Next.{Next}
@@ -13,7 +13,7 @@ use Rattle.model.proofs.Finds.{never, is-first}
 use Rattle.generators.specs.declared.bank.Bank.{Ghosts}
 use Rattle.charts.specs.Meanings.{chart_of}
 use Rattle.hisc.specs.Lines.{Line, line_of, components, flat, initial, moved, possible}
-use Rattle.hisc.specs.Calls.{accepted, refused, refuser, unless_refused, offer_reply}
+use Rattle.hisc.specs.Calls.{refused, refuser, unless_refused, offer_reply}
 use Rattle.hisc.proofs.Walks.{possible-make, unknown-free, unknown-moves, permits-free}
 use Rattle.hisc.proofs.Replies.{possible_accepted}
 use Rattle.walks.specs.Rows.{row_state}

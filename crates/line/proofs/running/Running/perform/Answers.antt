@@ -1,6 +1,6 @@
 use Rattle.std.proofs.Common.{◌≡◌, ◌+◌, length, sym, ap, subst, arith, ◌∙◌}
 use Rattle.line.specs.Lent.{lent}
-use Rattle.line.specs.Queues.{is_refused, reply_of}
+use Rattle.line.specs.Queues.{reply_of}
 use Rattle.line.specs.declared.queue.Call.TheVariants.{Offer}
 use Rattle.line.proofs.Performing.{Performing, one_if, refused-is, performing-more}
 use Rattle.line.proofs.running.Running.perform.Goals as goal

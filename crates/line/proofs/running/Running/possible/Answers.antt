@@ -1,11 +1,11 @@
-use Rattle.std.proofs.Common.{◌≡◌, ℕ, ◌+◌, ◌<◌, Bool, cond, List, length, set, sym, refl, ap, ◌∙◌, subst, arith}
+use Rattle.std.proofs.Common.{◌≡◌, ℕ, ◌<◌, Bool, cond, length, sym, refl, ap, ◌∙◌, arith}
 use Rattle.std.proofs.lemmas.Bool.{le-leb, lt-leb}
 use Rattle.model.specs.declared.fault.Fault.TheVariants.{PossibleSlice}
 use Rattle.hisc.specs.Calls.{Possible, events, refused, acceptable, passing}
 use Rattle.hisc.specs.Lines.{flat, possible}
 use Rattle.line.specs.Answers.{line_in, state_in}
 use Rattle.line.proofs.Answering.{answered-same, stepped-possible, stepped-impossible}
-use Rattle.line.proofs.Listing.{Listing, listing-skip, listing-put}
+use Rattle.line.proofs.Listing.{listing-skip, listing-put}
 use Rattle.line.proofs.running.Running.possible.Goals as goal
 use Rattle.line.proofs.running.Running.possible.Goals.{then-is_ok, else-is_ok}
 
