@@ -1,11 +1,10 @@
 -- Following the guide, offer by offer. Assumes nothing.
 use Rattle.std.proofs.Common.{◌≡◌, ℕ, zero, suc, ◌+◌, ◌-◌, ◌<◌, ◌≤◌, Bool, true, false, cond, List, [], ◌∷◌, ◌++◌, length, sym, refl, ap, ◌∙◌, subst, ap₂, inl, inr, arith, length-append}
 use Rattle.std.proofs.lemmas.Bool.{cases_Bool}
-use Rattle.model.specs.Generators.{Gen}
 use Rattle.model.specs.declared.fault.Fault.{Fault}
 use Rattle.model.specs.declared.fault.Fault.TheVariants.{WorkCells}
 use Rattle.model.specs.declared.fault.Layer.TheVariants.{Run}
-use Rattle.charts.specs.declared.chart.Chart.{Chart}
+use Rattle.generators.specs.declared.bank.Bank.{Ghosts}
 use Rattle.hisc.specs.declared.guide.Guidance.{Guidance}
 use Rattle.hisc.specs.declared.guide.Guidance.TheVariants.{Home, NoEvent, Event}
 use Rattle.hisc.specs.Calls.{Offer, Guide, Reply, accepted, guidance, refused, reply, next, after, replies}
@@ -15,9 +14,8 @@ use Rattle.hisc.specs.Lines.{Line, State, flat, moved, possible}
 use Rattle.hisc.specs.Sizes.{Cells, enough, bound}
 use Rattle.hisc.proofs.Laws.{asked, offered as offered-reply}
 use Rattle.hisc.proofs.Replies.{possible_accepted}
-use Rattle.points.specs.Examined.{cells_in}
 use Rattle.line.specs.Answers.{line_in, state_in, Answered}
-use Rattle.walks.specs.Given.{line_from}
+use Rattle.line.specs.Checked.{line_given}
 use Rattle.line.specs.Home.{WentHome, NotGuided}
 use Rattle.line.specs.declared.running.Running.{Running}
 
@@ -78,17 +76,14 @@ module _ (l : Line) where
         | inr n ↦ (let q = t ∙ ap (λ (b : Bool). cond b (guidance (guide l x)) (refused (WorkCells Run))) n in (n, cc))
       ]
 
-pub same-cells : (a b c i j k : ℕ) → a ≡ i → b ≡ j → c ≡ k → cells_in a b c ≡ cells_in i j k
-same-cells a b c i j k p q r = ap (λ (m : ℕ). cells_in m b c) p ∙ ap (λ (m : ℕ). cells_in i m c) q ∙ ap (cells_in i j) r
-
-module _ {B : Type 0} (list : B → List Gen) (first : Running B) (cells : Cells) where
+module _ {B : Type 0} {gh : Ghosts B} (first : Running B gh) (cells : Cells) where
   abbrev line : Line
-  line = line_in list first
+  line = line_in first
 
   -- n offers were made
-  pub record Going (now : Running B) (n : ℕ) : Type 0 where
-    pub same_bank : now.bank ≡ first.bank
-    pub same_chart : now.chart ≡ first.chart
+  pub record Going (now : Running B gh) (used : Cells) (n : ℕ) : Type 0 where
+    pub lent : used ≡ cells
+    pub same_line : now.passed.line ≡ first.passed.line
     pub word : List ℕ
     pub counted : length word ≡ n
     pub few : n ≤ bound line
@@ -96,11 +91,11 @@ module _ {B : Type 0} (list : B → List Gen) (first : Running B) (cells : Cells
     pub left : 0 < n → HomeWithin line (bound line - n) (state_in now)
     pub asked : 0 < n → enough line cells ≡ true
 
-  pub going-none : Going first 0
+  pub going-none : Going first cells 0
   unfolding Walked
   going-none = record {
-    same_bank = refl;
-    same_chart = refl;
+    lent = refl;
+    same_line = refl;
     word = [];
     counted = refl;
     few = omega arith;
@@ -109,87 +104,84 @@ module _ {B : Type 0} (list : B → List Gen) (first : Running B) (cells : Cells
     asked = λ h. absurd (omega arith);
   }
 
-  module _ (now : Running B) (n : ℕ) (p : Going now n) where
-    same : line_in list now ≡ line
-    same = ap (λ (k : Chart). line_from k (list now.bank)) p.same_chart ∙ ap (λ (y : B). line_from first.chart (list y)) p.same_bank
+  module _ (now : Running B gh) (used : Cells) (n : ℕ) (p : Going now used n) where
+    same : line_in now ≡ line
+    same = ap (line_given gh.list) p.same_line
 
-    here : Assured (line_in list now) (state_in now) → Assured line (state_in now)
+    here : Assured (line_in now) (state_in now) → Assured line (state_in now)
     here a = subst (λ (l : Line). Assured l (state_in now)) same a
 
     within : (m : ℕ) → m ≡ n → Assured line (state_in now) → HomeWithin line (bound line - n) (state_in now)
     within zero z a = let q : bound line ≡ bound line - n = omega arith in subst (λ (k : ℕ). HomeWithin line k (state_in now)) q a.home_within
     within (suc m) z a = p.left (omega arith)
 
-    module _ (used : Cells) (lent : used ≡ cells) where
-      told : (answer : Reply) → Answered list now now (Guide used) answer → answer ≡ reply line (state_in now) (Guide cells)
-      told answer a =
-          a.told ∙ ap (λ (l : Line). reply l (state_in now) (Guide used)) same ∙ ap (λ (k : Cells). reply line (state_in now) (Guide k)) lent
+    told : (answer : Reply) → Answered now now (Guide used) answer → answer ≡ reply line (state_in now) (Guide cells)
+    told answer a =
+        a.told ∙ ap (λ (l : Line). reply l (state_in now) (Guide used)) same ∙ ap (λ (k : Cells). reply line (state_in now) (Guide k)) p.lent
 
-      -- the guide named an event, and it was offered
-      pub going_more : (then : Running B) (e : ℕ) → Answered list now now (Guide used) (guidance (Event e)) → Answered list now then (Offer e) accepted → Going then (n + 1)
-      going_more then e a o =
-          let g = told-event line (state_in now) cells (Event e) (told (guidance (Event e)) a) in
-          let s = here a.assured in
-          let t = s.named_possible e g.1 in
-          let k = nearer line (bound line - n) (state_in now) e (within n refl s) g.1 in
-          let moves : state_in then ≡ moved line (state_in now) e =
-          o.moves ∙ ap (λ (l : Line). next l (state_in now) (Offer e)) same ∙ ap (λ (b : Bool). cond b (moved line (state_in now) e) (state_in now)) t in
-          let less : k.less ≡ bound line - (n + 1) = omega (arith, k.one) in
-          record {
-            same_bank = o.same_bank ∙ p.same_bank;
-            same_chart = o.same_chart ∙ p.same_chart;
-            word = p.word ++ (e ∷ []);
-            counted = length-append p.word (e ∷ []) ∙ ap (λ (m : ℕ). m + 1) p.counted;
-            few = omega (arith, k.one);
-            walked = subst (Walked line (state_in first) (p.word ++ (e ∷ []))) (sym moves) (walked_more line (state_in first) p.word (state_in now) e g.1 t p.walked);
-            left = λ h. subst (HomeWithin line (bound line - (n + 1))) (sym moves) (subst (λ (m : ℕ). HomeWithin line m (moved line (state_in now) e)) less k.rest);
-            asked = λ h. g.0;
-          }
+    -- the guide named an event, and it was offered
+    pub going_more : (then : Running B gh) (e : ℕ) → Answered now now (Guide used) (guidance (Event e)) → Answered now then (Offer e) accepted → (left : Cells) → left ≡ used → Going then left (n + 1)
+    going_more then e a o left kept =
+        let g = told-event line (state_in now) cells (Event e) (told (guidance (Event e)) a) in
+        let s = here a.assured in
+        let t = s.named_possible e g.1 in
+        let k = nearer line (bound line - n) (state_in now) e (within n refl s) g.1 in
+        let moves : state_in then ≡ moved line (state_in now) e =
+        o.moves ∙ ap (λ (l : Line). next l (state_in now) (Offer e)) same ∙ ap (λ (b : Bool). cond b (moved line (state_in now) e) (state_in now)) t in
+        let less : k.less ≡ bound line - (n + 1) = omega (arith, k.one) in
+        record {
+          lent = kept ∙ p.lent;
+          same_line = o.same_line ∙ p.same_line;
+          word = p.word ++ (e ∷ []);
+          counted = length-append p.word (e ∷ []) ∙ ap (λ (m : ℕ). m + 1) p.counted;
+          few = omega (arith, k.one);
+          walked = subst (Walked line (state_in first) (p.word ++ (e ∷ []))) (sym moves) (walked_more line (state_in first) p.word (state_in now) e g.1 t p.walked);
+          left = λ h. subst (HomeWithin line (bound line - (n + 1))) (sym moves) (subst (λ (m : ℕ). HomeWithin line m (moved line (state_in now) e)) less k.rest);
+          asked = λ h. g.0;
+        }
 
-      -- what the guide names is never refused
-      pub going-accepted : (then : Running B) (e : ℕ) (f : Fault) → Answered list now now (Guide used) (guidance (Event e)) → Answered list now then (Offer e) (refused f) → ⊥
-      going-accepted then e f a o =
-          let g = told-event line (state_in now) cells (Event e) (told (guidance (Event e)) a) in
-          let q = possible_accepted line (state_in now) e ((here a.assured).named_possible e g.1) in
-          let r = o.told ∙ ap (λ (l : Line). reply l (state_in now) (Offer e)) same ∙ q in
-          let z : ◌≡◌ {A = ℕ} 0 1 = cc in omega arith
+    -- what the guide names is never refused
+    pub going-accepted : (then : Running B gh) (e : ℕ) (f : Fault) → Answered now now (Guide used) (guidance (Event e)) → Answered now then (Offer e) (refused f) → ⊥
+    going-accepted then e f a o =
+        let g = told-event line (state_in now) cells (Event e) (told (guidance (Event e)) a) in
+        let q = possible_accepted line (state_in now) e ((here a.assured).named_possible e g.1) in
+        let r = o.told ∙ ap (λ (l : Line). reply l (state_in now) (Offer e)) same ∙ q in
+        let z : ◌≡◌ {A = ℕ} 0 1 = cc in omega arith
 
-      homed : Answered list now now (Guide used) (guidance Home) → WentHome list first now cells n
-      homed a =
-          let g = told-event line (state_in now) cells Home (told (guidance Home) a) in
-          record {
-            word = p.word;
-            counted = p.counted;
-            short = p.few;
-            named = walked-replies line cells g.0 (state_in first) p.word (state_in now) p.walked g.1;
-            same_bank = p.same_bank;
-            same_chart = p.same_chart;
-            moves = sym (walked-after line cells g.0 (state_in first) p.word (state_in now) p.walked);
-            home = (here a.assured).home_marked g.1;
-          }
+    homed : Answered now now (Guide used) (guidance Home) → WentHome first now cells n
+    homed a =
+        let g = told-event line (state_in now) cells Home (told (guidance Home) a) in
+        record {
+          word = p.word;
+          counted = p.counted;
+          short = p.few;
+          named = walked-replies line cells g.0 (state_in first) p.word (state_in now) p.walked g.1;
+          same_line = p.same_line;
+          moves = sym (walked-after line cells g.0 (state_in first) p.word (state_in now) p.walked);
+          home = (here a.assured).home_marked g.1;
+        }
 
-      lost : Answered list now now (Guide used) (guidance NoEvent) → ⊥
-      lost a =
-          let g = told-event line (state_in now) cells NoEvent (told (guidance NoEvent) a) in
-          (here a.assured).always_named g.1
+    lost : Answered now now (Guide used) (guidance NoEvent) → ⊥
+    lost a =
+        let g = told-event line (state_in now) cells NoEvent (told (guidance NoEvent) a) in
+        (here a.assured).always_named g.1
 
-      -- where the guide names no event, it says home
-      pub going-home : (g : Guidance) → ((e : ℕ) → g ≡ Event e → ⊥) → Answered list now now (Guide used) (guidance g) → WentHome list first now cells n
-      going-home Home none a = homed a
-      going-home NoEvent none a = absurd (lost a)
-      going-home (Event e) none a = absurd (none e refl)
+    -- where the guide names no event, it says home
+    pub going-home : (g : Guidance) → ((e : ℕ) → g ≡ Event e → ⊥) → Answered now now (Guide used) (guidance g) → WentHome first now cells n
+    going-home Home none a = homed a
+    going-home NoEvent none a = absurd (lost a)
+    going-home (Event e) none a = absurd (none e refl)
 
-      pub going-short : (f : Fault) → Answered list now now (Guide used) (refused f) → NotGuided list first now cells f
-      going-short f a =
-          let g = told-refused line (state_in now) cells f (told (refused f) a) in
-          record {
-            refusal = g.1;
-            few = g.0;
-            same_bank = p.same_bank;
-            same_chart = p.same_chart;
-            stays = sym (walked_none line (state_in first) p.word (state_in now) (p.counted ∙ never-asked n refl g.0) p.walked);
-          }
-        where
-          never-asked : (m : ℕ) → m ≡ n → enough line cells ≡ false → n ≡ 0
-          never-asked zero z h = sym z
-          never-asked (suc m) z h = let q = p.asked (omega arith) in absurd (let y : ◌≡◌ {A = ℕ} 0 1 = cc in omega arith)
+    pub going-short : (f : Fault) → Answered now now (Guide used) (refused f) → NotGuided first now cells f
+    going-short f a =
+        let g = told-refused line (state_in now) cells f (told (refused f) a) in
+        record {
+          refusal = g.1;
+          few = g.0;
+          same_line = p.same_line;
+          stays = sym (walked_none line (state_in first) p.word (state_in now) (p.counted ∙ never-asked n refl g.0) p.walked);
+        }
+      where
+        never-asked : (m : ℕ) → m ≡ n → enough line cells ≡ false → n ≡ 0
+        never-asked zero z h = sym z
+        never-asked (suc m) z h = let q = p.asked (omega arith) in absurd (let y : ◌≡◌ {A = ℕ} 0 1 = cc in omega arith)

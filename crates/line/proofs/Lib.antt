@@ -2,8 +2,8 @@ mod Answering
 mod Guiding
 mod Homing
 mod Judging
+mod Known
 mod Listing
 mod Performing
 mod Rows
 mod Stepping
-mod Wrapped

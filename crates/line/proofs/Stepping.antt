@@ -1,22 +1,28 @@
 -- What the components of a bank reply to an event, one after the other, and what an offer of it comes to. Assumes nothing.
-use Rattle.std.proofs.Common.{◌≡◌, ℕ, zero, suc, ◌+◌, ◌<◌, ◌≤◌, Bool, true, false, cond, not, ◌||◌, ◌≢◌, List, [], ◌∷◌, length, get_or, set, replicate, Some, None, sym, refl, ap, ◌∙◌, subst, inl, inr, arith}
+use Rattle.std.proofs.Common.{Option as Maybe, ◌≡◌, ℕ, zero, suc, ◌+◌, ◌<◌, ◌≤◌, Bool, true, false, cond, not, ◌||◌, ◌≢◌, List, [], ◌∷◌, length, get_or, ◌++◌, set, Some, None, Ok, sym, refl, ap, ◌∙◌, subst, inl, inr, arith}
 use mathlib.Core.Path.{fun_ext}
 use mathlib.Core.Option.{Option}
-use Rattle.std.proofs.lemmas.List.{length-replicate, get_or-replicate, get_or_past, get_or-set_same, get_or-set_other}
-use Rattle.std.proofs.lemmas.Bool.{cases_Bool, cases_lt, lt-ltb, le-ltb, or_from, not_from_true, not_from_false}
+use Rattle.std.proofs.lemmas.List.{length-append, get_or_append_left, get_or_past, get_or-set_same, get_or-set_other, set-append_left}
+use Rattle.std.proofs.lemmas.Bool.{cases_Bool, cases_lt, lt-ltb, or_from, not_from_true, not_from_false}
 use Rattle.model.specs.Charts.{EventChart}
 use Rattle.model.specs.Generators.{Gen, AllFormed, nothing, is_to, target, permits, forbids, moves}
 use Rattle.model.specs.declared.next.Next.{Next}
 use Rattle.model.specs.declared.next.Next.TheVariants.{Foreign, Forbidden, To}
 use Rattle.model.specs.declared.fault.Fault.TheVariants.{EventNumber, Refused}
 use Rattle.model.proofs.Finds.{never, is-first}
-use Rattle.hisc.specs.Lines.{State, line_of, components, flat, initial, moved, possible}
-use Rattle.hisc.specs.Calls.{accepted, refused, refuser, unless_refused, offer_reply}
+use Rattle.generators.specs.declared.bank.Bank.{Ghosts}
+use Rattle.charts.specs.Meanings.{chart_of}
+use Rattle.hisc.specs.Lines.{Line, line_of, components, flat, initial, moved, possible}
+use Rattle.hisc.specs.Calls.{refused, refuser, unless_refused, offer_reply}
 use Rattle.hisc.proofs.Walks.{possible-make, unknown-free, unknown-moves, permits-free}
 use Rattle.hisc.proofs.Replies.{possible_accepted}
 use Rattle.walks.specs.Rows.{row_state}
 use Rattle.walks.specs.declared.row.Row.{Row}
-use Rattle.line.specs.Steps.{followed}
+use Rattle.line.specs.Answers.{line_in, state_in}
+use Rattle.line.specs.Steps.{followed, Stepped}
+use Rattle.line.specs.declared.running.Running.{Running}
+use Rattle.line.proofs.Known.{runs_in}
+use Rattle.line.proofs.Rows.{shown-beyond, runs-step}
 
 -- foreign is what is unknown, and nothing else
 record Regular (g : Gen) : Type 0 where
@@ -79,66 +85,83 @@ module _ (gens : List Gen) (formed : AllFormed gens) (row : Row) (e : ℕ) where
         | inr h ↦ let q : n ≡ c = omega arith in subst P q here
       ]
 
-  -- component n has moved to t
-  pub moving-more : (n t : ℕ) (states : List ℕ) → n < length states → followed ((get_or gens n nothing).next (row_state row n) e) (row_state row n) ≡ Some t →
-      Moving gens row e n states → Moving gens row e (n + 1) (set states n t)
-  moving-more n t states lt h m =
-      let f = followed-some (get_or gens n nothing) (regular-at gens formed n) (row_state row n) e ((get_or gens n nothing).next (row_state row n) e) t refl h in
-      record {
-        free = upto (λ c. forbids (get_or gens c nothing) (row_state row c) e ≡ false) n m.free f.0;
-        moved = upto (λ c. get_or (set states n t) c 0 ≡ moves (get_or gens c nothing) (row_state row c) e) n
-            (λ c k. let ne : c ≢ n = omega arith in get_or-set_other states n c t 0 ne ∙ m.moved c k)
-            (get_or-set_same states n t 0 lt ∙ sym f.1);
-        rest = λ c ge. let ne : c ≢ n = omega arith in get_or-set_other states n c t 0 ne ∙ m.rest c (omega arith);
-      }
+  module _ (items rest : List ℕ) (n : ℕ) (lt : n < length items) (m : Moving gens row e n (items ++ rest)) where
+    -- the place of component n is as it was
+    still-there : get_or items n 0 ≡ row_state row n
+    still-there = sym (get_or_append_left items rest 0 n lt) ∙ m.rest n (omega arith)
+
+    abbrev reply_at : ℕ → Maybe ℕ
+    reply_at state = followed ((get_or gens n nothing).next state e) state
+
+    -- component n has moved to t
+    pub moving-more : (t : ℕ) → reply_at (get_or items n 0) ≡ Some t → Moving gens row e (n + 1) (set items n t ++ rest)
+    moving-more t h =
+        let f = followed-some (get_or gens n nothing) (regular-at gens formed n) (row_state row n) e ((get_or gens n nothing).next (row_state row n) e) t refl (ap reply_at (sym still-there) ∙ h) in
+        let states : List ℕ = items ++ rest in
+        let far : n < length states = omega (arith, length-append items rest) in
+        subst (Moving gens row e (n + 1)) (set-append_left items rest n t lt) (record {
+          free = upto (λ c. forbids (get_or gens c nothing) (row_state row c) e ≡ false) n m.free f.0;
+          moved = upto (λ c. get_or (set states n t) c 0 ≡ moves (get_or gens c nothing) (row_state row c) e) n
+              (λ c k. let ne : c ≢ n = omega arith in get_or-set_other states n c t 0 ne ∙ m.moved c k)
+              (get_or-set_same states n t 0 far ∙ sym f.1);
+          rest = λ c ge. let ne : c ≢ n = omega arith in get_or-set_other states n c t 0 ne ∙ m.rest c (omega arith);
+        })
+
+    -- component n knows and forbids the event
+    forbids-it : reply_at (get_or items n 0) ≡ None → forbids (get_or gens n nothing) (row_state row n) e ≡ true
+    forbids-it h =
+        followed-none (get_or gens n nothing) (regular-at gens formed n) (row_state row n) e ((get_or gens n nothing).next (row_state row n) e) refl (ap reply_at (sym still-there) ∙ h)
 
   module _ (chart : EventChart) where
-    -- an event number from the chart's number of events up
-    pub beyond-events : chart.events ≤ e → offer_reply (line_of chart gens) (row_state row) e ≡ refused (EventNumber e)
-    beyond-events h =
-        ap (λ (b : Bool). cond b (unless_refused (line_of chart gens) (refuser (line_of chart gens) (row_state row) e) e) (refused (EventNumber e))) (le-ltb e chart.events h)
-
     module _ (inside : e < chart.events) where
+      abbrev line : Line
+      line = line_of chart gens
+
       -- component n is the lowest that knows and forbids the event
-      pub refused-by : (n : ℕ) (states : List ℕ) → n < components (line_of chart gens) → followed ((get_or gens n nothing).next (row_state row n) e) (row_state row n) ≡ None →
-          Moving gens row e n states → offer_reply (line_of chart gens) (row_state row) e ≡ refused (Refused n e)
+      pub refused-by : (items rest : List ℕ) (n : ℕ) (lt : n < length items) → n < components line → Moving gens row e n (items ++ rest) →
+          followed ((get_or gens n nothing).next (get_or items n 0) e) (get_or items n 0) ≡ None → offer_reply line (row_state row) e ≡ refused (Refused n e)
       unfolding refuser
-      refused-by n states lt h m =
-          let at = is-first (components (line_of chart gens)) (λ c. forbids (get_or gens c nothing) (row_state row c) e) n
-          (record { within = lt; holds = followed-none (get_or gens n nothing) (regular-at gens formed n) (row_state row n) e ((get_or gens n nothing).next (row_state row n) e) refl h; before = m.free }) in
-          ap (λ (b : Bool). cond b (unless_refused (line_of chart gens) (refuser (line_of chart gens) (row_state row) e) e) (refused (EventNumber e))) (lt-ltb e chart.events inside)
-          ∙ ap (λ (o : Option ℕ). unless_refused (line_of chart gens) o e) at
+      refused-by items rest n lt few m h =
+          let at = is-first (components line) (λ c. forbids (get_or gens c nothing) (row_state row c) e) n
+          (record { within = few; holds = forbids-it items rest n lt m h; before = m.free }) in
+          ap (λ (b : Bool). cond b (unless_refused line (refuser line (row_state row) e) e) (refused (EventNumber e))) (lt-ltb e chart.events inside)
+          ∙ ap (λ (o : Option ℕ). unless_refused line o e) at
 
-      -- no component forbids the event
-      pub all-permit : (n : ℕ) (states : List ℕ) → components (line_of chart gens) ≤ n → Moving gens row e n states → possible (line_of chart gens) (flat (line_of chart gens)) (row_state row) e ≡ true
-      all-permit n states ge m =
-          possible-make (line_of chart gens) (flat (line_of chart gens)) (row_state row) e (lt-ltb e chart.events inside) (λ c lt i. m.free c (omega arith))
+      module _ (n : ℕ) (states : List ℕ) (ge : components line ≤ n) (m : Moving gens row e n states) where
+        -- no component forbids the event
+        pub all-permit : possible line (flat line) (row_state row) e ≡ true
+        all-permit = possible-make line (flat line) (row_state row) e (lt-ltb e chart.events inside) (λ c lt i. m.free c (omega arith))
 
-      pub all-accept : (n : ℕ) (states : List ℕ) → components (line_of chart gens) ≤ n → Moving gens row e n states → offer_reply (line_of chart gens) (row_state row) e ≡ accepted
-      all-accept n states ge m = possible_accepted (line_of chart gens) (row_state row) e (all-permit n states ge m)
+        -- and all that know it have moved
+        pub all_moved : length gens ≡ components line → row_state (record { states = states }) ≡ moved line (row_state row) e
+        all_moved whole =
+            fun_ext (λ c. elim (cases_lt c n) [
+              | inl lt ↦ m.moved c lt
+              | inr past ↦ m.rest c past ∙ sym (ap (λ (g : Gen). moves g (row_state row c) e) (get_or_past gens c nothing (omega arith)))
+            ])
 
-    -- and all that know it have moved
-    pub all_moved : length gens ≡ components (line_of chart gens) → (n : ℕ) (states : List ℕ) → components (line_of chart gens) ≤ n → Moving gens row e n states →
-        ◌≡◌ {A = State} (λ c. get_or states c 0) (moved (line_of chart gens) (row_state row) e)
-    all_moved whole n states ge m =
-        fun_ext (λ c. elim (cases_lt c n) [
-          | inl lt ↦ m.moved c lt
-          | inr past ↦ m.rest c past ∙ sym (ap (λ (g : Gen). moves g (row_state row c) e) (get_or_past gens c nothing (omega arith)))
-        ])
-
-pub zeros-at : (n c : ℕ) → ◌≡◌ {A = ℕ} (get_or (replicate n 0) c 0) 0
-zeros-at n c =
-    elim (cases_lt c n) [
-      | inl lt ↦ get_or-replicate n c 0 0 lt
-      | inr ge ↦ get_or_past (replicate n 0) c 0 (omega (arith, length-replicate {A = ℕ} n 0))
-    ]
+module _ {B : Type 0} {gh : Ghosts B} (r : Running B gh) (e : ℕ) (inside : e < (line_in r).chart.events) where
+  -- a row that every component has moved on
+  pub stepped : (n : ℕ) (states : List ℕ) → n ≡ components (line_in r) → length states ≡ 26 → Moving (gh.list r.passed.line.bank) r.row e n states →
+      Stepped gh.list r.passed.line (state_in r) e (Ok (record { states = states }))
+  stepped n states all long m =
+      let given = r.passed.line in
+      let gens = gh.list given.bank in
+      let formed = gh.formed given.bank in
+      let known = runs_in r in
+      let can = all-permit gens formed r.row e (chart_of given.chart) inside n states (omega arith) m in
+      let is = all_moved gens formed r.row e (chart_of given.chart) inside n states (omega arith) m known.checked.sizes.complete in (
+        possible_accepted (line_in r) (state_in r) e can,
+        is,
+        runs-step gh.list given formed r.row known e can states long
+            (λ i far. m.rest i (omega arith) ∙ shown-beyond (line_in r) r.row.states known.shown i far) is,
+      )
 
 -- all initial states
-pub all-initial : (gens : List Gen) (chart : EventChart) → length gens ≡ components (line_of chart gens) → (n : ℕ) (states : List ℕ) → components (line_of chart gens) ≤ n →
-    ((c : ℕ) → c < n → get_or states c 0 ≡ (get_or gens c nothing).initial) → ((c : ℕ) → n ≤ c → get_or states c 0 ≡ 0) →
-    ◌≡◌ {A = State} (λ c. get_or states c 0) (initial (line_of chart gens))
-all-initial gens chart whole n states ge f z =
-    fun_ext (λ c. elim (cases_lt c n) [
+pub all-initial : (gens : List Gen) (chart : EventChart) → length gens ≡ components (line_of chart gens) → (row : Row) → length row.states ≡ 26 → components (line_of chart gens) ≤ 26 →
+    ((c : ℕ) → c < 26 → row_state row c ≡ (get_or gens c nothing).initial) → row_state row ≡ initial (line_of chart gens)
+all-initial gens chart whole row long few f =
+    fun_ext (λ c. elim (cases_lt c 26) [
       | inl lt ↦ f c lt
-      | inr past ↦ z c past ∙ sym (ap (λ (g : Gen). g.initial) (get_or_past gens c nothing (omega arith)))
+      | inr past ↦ get_or_past row.states c 0 (omega arith) ∙ sym (ap (λ (g : Gen). g.initial) (get_or_past gens c nothing (omega arith)))
     ])

@@ -1,14 +1,14 @@
 -- What the calls of a running line promise. Assumes nothing.
 use Rattle.std.specs.Prelude.{◌≡◌, ℕ, List, take, Ok, Err, Result}
-use Rattle.model.specs.Generators.{Gen}
 use Rattle.model.specs.declared.fault.Fault.{Fault}
+use Rattle.generators.specs.declared.bank.Bank.{Ghosts}
 use Rattle.hisc.specs.declared.guide.Guidance.{Guidance}
 use Rattle.hisc.specs.Lines.{Line, State}
 use Rattle.hisc.specs.Calls.{Call, Reply, accepted, guidance, events, states, refused, reply, next}
 use Rattle.hisc.specs.Law.{Assured}
-use Rattle.walks.specs.Given.{line_from}
 use Rattle.walks.specs.Rows.{row_state}
 use Rattle.walks.specs.declared.row.Row.{Row}
+use Rattle.line.specs.Checked.{line_given}
 use Rattle.line.specs.declared.running.Running.{Running}
 
 -- the reply to an offer
@@ -34,19 +34,17 @@ listed (Err fault) bytes = refused fault
 abbrev pub shown : Row → Reply
 shown row = states row.states
 
--- the state of the line that runs
-abbrev pub state_in : {B : Type 0} → Running B → State
-state_in running = row_state running.row
+module _ {B : Type 0} {g : Ghosts B} where
+  -- the line that runs, and its state
+  abbrev pub line_in : Running B g → Line
+  line_in running = line_given g.list running.passed.line
 
-module _ {B : Type 0} (list : B → List Gen) where
-  -- the line that runs, over a bank with this list
-  abbrev pub line_in : Running B → Line
-  line_in running = line_from running.chart (list running.bank)
+  abbrev pub state_in : Running B g → State
+  state_in running = row_state running.row
 
-  -- a call that was answered: its reply, the bank, the chart and the state that it leaves, and what is assured of that state
-  pub record Answered (before after : Running B) (call : Call) (answer : Reply) : Type 0 where
+  -- a call that was answered: its reply, the line and the state that it leaves, and what is assured of that state
+  pub record Answered (before after : Running B g) (call : Call) (answer : Reply) : Type 0 where
     pub told : answer ≡ reply (line_in before) (state_in before) call
-    pub same_bank : after.bank ≡ before.bank
-    pub same_chart : after.chart ≡ before.chart
+    pub same_line : after.passed.line ≡ before.passed.line
     pub moves : state_in after ≡ next (line_in before) (state_in before) call
     pub assured : Assured (line_in before) (state_in after)

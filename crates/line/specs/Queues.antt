@@ -1,13 +1,14 @@
 -- Queues of calls. Assumes nothing.
-use Rattle.std.specs.Prelude.{◌≡◌, ℕ, ◌+◌, Bool, true, false, cond, List, [], ◌∷◌, map, take}
-use Rattle.model.specs.Generators.{Gen}
+use Rattle.std.specs.Prelude.{◌≡◌, ℕ, ◌+◌, Bool, true, false, cond, List, [], ◌∷◌, map, take, Ok, Err, Result}
+use Rattle.model.specs.declared.fault.Fault.{Fault}
+use Rattle.generators.specs.declared.bank.Bank.{Ghosts}
 use Rattle.hisc.specs.Calls.{Call, Offer, Guide, Possible, Look, Restart, Reply, accepted, guidance, events, states, restarted, refused, after, replies}
 use Rattle.hisc.specs.Sizes.{Cells}
 use Rattle.line.specs.Answers.{line_in, state_in}
 use Rattle.line.specs.declared.queue.Call.{Call as CallGiven}
 use Rattle.line.specs.declared.queue.Call.TheVariants.{Offer as OfferGiven, Guide as GuideGiven, Possible as PossibleGiven, Look as LookGiven, Restart as RestartGiven}
 use Rattle.line.specs.declared.queue.Reply.{Reply as ReplyGiven}
-use Rattle.line.specs.declared.queue.Reply.TheVariants.{Accepted, Guided, Listed, Shown, Restarted, Refused}
+use Rattle.line.specs.declared.queue.Reply.TheVariants.{Accepted, Guided, Listed, Shown, Restarted}
 use Rattle.line.specs.declared.running.Running.{Running}
 
 -- the call that a value stands for, with a slice of so many bytes for the possible events and three slices of work cells
@@ -18,14 +19,14 @@ call_of bytes cells PossibleGiven = Possible bytes
 call_of bytes cells LookGiven = Look
 call_of bytes cells RestartGiven = Restart
 
--- the reply that a value stands for, with the slice of the possible events as the call left it
-abbrev pub reply_of : List ℕ → ReplyGiven → Reply
-reply_of out Accepted = accepted
-reply_of out (Guided given) = guidance given
-reply_of out (Listed count) = events (take count out)
-reply_of out (Shown row) = states row.states
-reply_of out Restarted = restarted
-reply_of out (Refused fault) = refused fault
+-- the reply that a result stands for, with the slice of the possible events as the call left it
+abbrev pub reply_of : List ℕ → Result ReplyGiven Fault → Reply
+reply_of out (Ok Accepted) = accepted
+reply_of out (Ok (Guided given)) = guidance given
+reply_of out (Ok (Listed count)) = events (take count out)
+reply_of out (Ok (Shown row)) = states row.states
+reply_of out (Ok Restarted) = restarted
+reply_of out (Err fault) = refused fault
 
 abbrev pub is_refused : Reply → Bool
 is_refused accepted = false
@@ -40,9 +41,8 @@ abbrev pub refusals : List Reply → ℕ
 refusals [] = 0
 refusals (reply ∷ more) = cond (is_refused reply) 1 0 + refusals more
 
--- a queue of calls that was performed: how many were refused, and the bank, the chart and the state that it leaves
-pub record Performed {B : Type 0} (list : B → List Gen) (first last : Running B) (bytes : ℕ) (cells : Cells) (queue : List CallGiven) (count : ℕ) : Type 0 where
-  pub counted : count ≡ refusals (replies (line_in list first) (state_in first) (map (call_of bytes cells) queue))
-  pub same_bank : last.bank ≡ first.bank
-  pub same_chart : last.chart ≡ first.chart
-  pub moves : state_in last ≡ after (line_in list first) (state_in first) (map (call_of bytes cells) queue)
+-- a queue of calls that was performed: how many were refused, and the line and the state that it leaves
+pub record Performed {B : Type 0} {g : Ghosts B} (first last : Running B g) (bytes : ℕ) (cells : Cells) (queue : List CallGiven) (count : ℕ) : Type 0 where
+  pub counted : count ≡ refusals (replies (line_in first) (state_in first) (map (call_of bytes cells) queue))
+  pub same_line : last.passed.line ≡ first.passed.line
+  pub moves : state_in last ≡ after (line_in first) (state_in first) (map (call_of bytes cells) queue)

@@ -1,32 +1,32 @@
 // The check: it takes a line, and hands over a passed line, or the first fault and the line.
-ghost use Rattle.std.specs.Prelude.{◌≡◌, length};
-ghost use Rattle.walks.specs.Given.{line_from};
+ghost use Rattle.std.specs.Prelude.{◌≡◌};
+ghost use Rattle.line.specs.Checked.{line_given};
 ghost use Rattle.line.specs.Judged.{Judged};
-ghost use Rattle.points.specs.Examined.{cells_in};
+ghost use Rattle.line.specs.Lent.{lent};
 ghost use Rattle.measure.specs.Measured.{sizes_of};
 
+use crate::cells::Cells;
 use crate::line::Line;
 use crate::passed::Passed;
-use crate::steps;
 use generators::bank::Bank;
 use measure::sizes::WalkSizes;
 use model::fault::Fault;
 use points::examination::examine;
 
 // Tries the ten points, each level alone. A line that passes keeps the law over every queue of calls.
-pub fn check<B: Bank>(
-    line: Line<B>,
-    first: &mut [u32],
-    second: &mut [u32],
-    third: &mut [u32],
-) -> Result<Passed<B>, (Fault, Line<B>)>
-    ensures { Judged B.Bank.list line (cells_in (length first.old) (length second.old) (length third.old)) result }
+pub fn check<B: Bank>(line: Line<B>, cells: &mut Cells<'_>) -> Result<Passed<B>, (Fault, Line<B>)>
+    ensures judged { Judged line (lent cells.old) result }
+    ensures lengths { lent cells.new ≡ lent cells.old }
 {
-    match examine(&line.chart, &line.bank, first, second, third) {
-        Ok(()) => {
-            let Line { chart, bank } = line;
-            Ok(Passed::seal(bank, chart))
-        }
+    // A `match`, since each arm moves the line.
+    match examine(
+        &line.chart,
+        &line.bank,
+        cells.first,
+        cells.second,
+        cells.third,
+    ) {
+        Ok(()) => Ok(Passed { line }),
         Err(fault) => Err((fault, line)),
     }
 }
@@ -34,8 +34,8 @@ pub fn check<B: Bank>(
 impl<B: Bank> Passed<B> {
     // The sizes of its walks.
     pub fn sizes(&self) -> WalkSizes
-        ensures { result ≡ sizes_of (line_from self.now.chart (B.Bank.list self.now.bank)) }
+        ensures { result ≡ sizes_of (line_given B.Bank.list self.now.line) }
     {
-        steps::walk_sizes(self.chart(), self.bank())
+        WalkSizes::of(&self.line.chart, &self.line.bank).unwrap()
     }
 }

@@ -2,6 +2,7 @@
 #![tactic(auto)]
 
 pub mod calls;
+pub mod cells;
 pub mod check;
 pub mod line;
 pub mod passed;

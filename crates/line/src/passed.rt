@@ -1,56 +1,37 @@
 // A line that passed the check.
 ghost use Rattle.std.specs.Prelude.{◌≡◌};
-ghost use base.Fml.{fex, ftrue};
-ghost use denote.Sharing.{said};
 ghost use Rattle.line.specs.Checked.{Checked};
 
+use crate::line::Line;
 use charts::chart::Chart;
 use generators::bank::Bank;
-use std::marker::Model;
 
 // Every such value carries what the check found.
+#[derive(Drop)]
 pub struct Passed<B: Bank> {
-    bank: B,
-    chart: Chart,
-}
-
-impl<B: Bank> Model for Passed<B> {
-    ghost also_owns = { λ p. fex (Checked p.chart (B.Bank.list p.bank)) (λ _. ftrue) };
-
-    ghost also_shares = { λ p _ κ. said (fex (Checked p.chart (B.Bank.list p.bank)) (λ _. ftrue)) κ };
+    pub(crate) line: Line<B>,
+    ghost checked: { ∥ Checked B.Bank.list line ∥₁ },
 }
 
 impl<B: Bank> Passed<B> {
-    pub(crate) fn seal(bank: B, chart: Chart) -> Passed<B>
-        requires { Checked chart (B.Bank.list bank) }
-        ensures { (result.bank ≡ bank) × (result.chart ≡ chart) }
-    {
-        Passed { bank, chart }
-    }
-
     // The bank again; the passed line is used up.
     pub fn unseal(self) -> B
-        ensures { (result ≡ self.bank) × Checked self.chart (B.Bank.list self.bank) }
+        ensures { (result ≡ self.line.bank) × Checked B.Bank.list self.line }
     {
-        let Passed { bank, chart } = self;
+        let Passed { line } = self;
+        let Line { chart, bank } = line;
         bank
     }
 
     pub fn bank(&self) -> &B
-        ensures { (result.now ≡ self.now.bank) × Checked self.now.chart (B.Bank.list self.now.bank) }
+        ensures { (result.now ≡ self.now.line.bank) × Checked B.Bank.list self.now.line }
     {
-        &self.bank
+        &self.line.bank
     }
 
     pub fn chart(&self) -> &Chart
-        ensures { (result.now ≡ self.now.chart) × Checked self.now.chart (B.Bank.list self.now.bank) }
+        ensures { (result.now ≡ self.now.line.chart) × Checked B.Bank.list self.now.line }
     {
-        &self.chart
-    }
-}
-
-impl<B: Bank + Drop> Drop for Passed<B> {
-    fn drop(self) {
-        let _bank = self.unseal();
+        &self.line.chart
     }
 }

@@ -1,12 +1,14 @@
 // Calls as values, and queues of them.
-ghost use Rattle.std.specs.Prelude.{length};
+ghost use Rattle.std.specs.Prelude.{◌≡◌, length};
 ghost use Rattle.line.specs.Answers.{Answered};
 ghost use Rattle.line.specs.Queues.{call_of, reply_of, Performed};
-ghost use Rattle.points.specs.Examined.{cells_in};
+ghost use Rattle.line.specs.Lent.{lent};
 
+use crate::cells::Cells;
 use crate::queue::{Call, Reply};
 use crate::running::Running;
 use generators::bank::Bank;
+use model::fault::Fault;
 
 impl<B: Bank> Running<B> {
     // Makes the call, with what is lent for it: a slice for the possible events, and three of work cells.
@@ -14,47 +16,35 @@ impl<B: Bank> Running<B> {
         &mut self,
         call: Call,
         out: &mut [u8],
-        first: &mut [u32],
-        second: &mut [u32],
-        third: &mut [u32],
-    ) -> Reply
-        ensures { Answered B.Bank.list self.old self.new (call_of (length out.old) (cells_in (length first.old) (length second.old) (length third.old)) call) (reply_of out.new result) }
+        cells: &mut Cells<'_>,
+    ) -> Result<Reply, Fault>
+        ensures answered { Answered self.old self.new (call_of (length out.old) (lent cells.old) call) (reply_of out.new result) }
+        ensures lengths { lent cells.new ≡ lent cells.old }
     {
-        match call {
-            Call::Offer(event) => match self.offer(event) {
-                Ok(()) => Reply::Accepted,
-                Err(fault) => Reply::Refused(fault),
-            },
-            Call::Guide => match self.guide(first, second, third) {
-                Ok(guidance) => Reply::Guided(guidance),
-                Err(fault) => Reply::Refused(fault),
-            },
-            Call::Possible => match self.possible(out) {
-                Ok(count) => Reply::Listed(count),
-                Err(fault) => Reply::Refused(fault),
-            },
+        Ok(match call {
+            Call::Offer(event) => {
+                self.offer(event)?;
+                Reply::Accepted
+            }
+            Call::Guide => Reply::Guided(self.guide(cells)?),
+            Call::Possible => Reply::Listed(self.possible(out)?),
             Call::Look => Reply::Shown(self.look()),
             Call::Restart => {
                 self.restart();
                 Reply::Restarted
             }
-        }
+        })
     }
 
     // Makes the calls in turn, and returns how many were refused.
-    pub fn perform(
-        &mut self,
-        calls: &[Call],
-        out: &mut [u8],
-        first: &mut [u32],
-        second: &mut [u32],
-        third: &mut [u32],
-    ) -> usize
-        ensures { Performed B.Bank.list self.old self.new (length out.old) (cells_in (length first.old) (length second.old) (length third.old)) calls.now result }
+    pub fn perform(&mut self, calls: &[Call], out: &mut [u8], cells: &mut Cells<'_>) -> usize
+        ensures performed { Performed self.old self.new (length out.old) (lent cells.old) calls.now result }
+        ensures lengths { lent cells.new ≡ lent cells.old }
     {
+        // Tried as a chain: the proof knows nothing of what a closure returned that changes what it captures.
         let mut refused = 0;
         for call in calls {
-            if let Reply::Refused(_) = self.answer(*call, out, first, second, third) {
+            if self.answer(*call, out, cells).is_err() {
                 refused += 1;
             }
         }

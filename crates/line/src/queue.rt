@@ -1,6 +1,5 @@
 // Queues of calls.
 use hisc::guide::Guidance;
-use model::fault::Fault;
 use walks::row::Row;
 
 // A call to a running line.
@@ -13,7 +12,7 @@ pub enum Call {
     Restart,
 }
 
-// What a call is answered.
+// What a call that is not refused is answered.
 #[derive(Clone, Copy)]
 pub enum Reply {
     Accepted,
@@ -22,5 +21,4 @@ pub enum Reply {
     Listed(usize),
     Shown(Row),
     Restarted,
-    Refused(Fault),
 }

@@ -1,71 +1,40 @@
-// A line that runs: a bank, its chart, and a row of states that the line reaches.
+// A line that runs: a line that passed the check, and a row of states that it reaches.
 ghost use Rattle.std.specs.Prelude.{◌≡◌};
-ghost use base.Fml.{fex, ftrue};
-ghost use denote.Sharing.{said};
 ghost use Rattle.line.specs.Checked.{Runs};
 
+use crate::passed::Passed;
 use charts::chart::Chart;
 use generators::bank::Bank;
-use std::marker::Model;
 use walks::row::Row;
 
-// Every such value carries what the check found, and that its states are reached.
+// Every such value carries that its states are reached.
+#[derive(Drop)]
 pub struct Running<B: Bank> {
-    bank: B,
-    chart: Chart,
-    row: Row,
+    pub(crate) passed: Passed<B>,
+    pub(crate) row: Row,
+    ghost runs: { ∥ Runs B.Bank.list passed.line row ∥₁ },
 }
 
-impl<B: Bank> Model for Running<B> {
-    ghost also_owns = { λ r. fex (Runs r.chart r.row (B.Bank.list r.bank)) (λ _. ftrue) };
-
-    ghost also_shares = { λ r _ κ. said (fex (Runs r.chart r.row (B.Bank.list r.bank)) (λ _. ftrue)) κ };
-}
-
+// The three calls of a passed line again: these tell what is known of a running one.
+#[tactic(auto, using(crate::proofs::Known::runs_in))]
 impl<B: Bank> Running<B> {
-    pub(crate) fn seal(bank: B, chart: Chart, row: Row) -> Running<B>
-        requires { Runs chart row (B.Bank.list bank) }
-        ensures { (result.bank ≡ bank) × (result.chart ≡ chart) × (result.row ≡ row) }
-    {
-        Running { bank, chart, row }
-    }
-
     // The bank again; the running line is used up.
     pub fn unseal(self) -> B
-        ensures { (result ≡ self.bank) × Runs self.chart self.row (B.Bank.list self.bank) }
+        ensures { (result ≡ self.passed.line.bank) × Runs B.Bank.list self.passed.line self.row }
     {
-        let Running { bank, chart, row } = self;
-        bank
-    }
-
-    pub(crate) fn put(&mut self, row: Row)
-        requires { Runs self.old.chart row (B.Bank.list self.old.bank) }
-        ensures { (self.new.bank ≡ self.old.bank) × (self.new.chart ≡ self.old.chart) × (self.new.row ≡ row) }
-    {
-        self.row = row;
+        let Running { passed, row } = self;
+        passed.unseal()
     }
 
     pub fn bank(&self) -> &B
-        ensures { (result.now ≡ self.now.bank) × Runs self.now.chart self.now.row (B.Bank.list self.now.bank) }
+        ensures { (result.now ≡ self.now.passed.line.bank) × Runs B.Bank.list self.now.passed.line self.now.row }
     {
-        &self.bank
+        self.passed.bank()
     }
 
     pub fn chart(&self) -> &Chart
-        ensures { (result.now ≡ self.now.chart) × Runs self.now.chart self.now.row (B.Bank.list self.now.bank) }
+        ensures { (result.now ≡ self.now.passed.line.chart) × Runs B.Bank.list self.now.passed.line self.now.row }
     {
-        &self.chart
-    }
-
-    pub(crate) fn row(&self) -> &Row
-        ensures { (result.now ≡ self.now.row) × Runs self.now.chart self.now.row (B.Bank.list self.now.bank) }
-    {
-        &self.row
-    }
-}
-
-impl<B: Bank + Drop> Drop for Running<B> {
-    fn drop(self) {
-        let _bank = self.unseal();
+        self.passed.chart()
     }
 }

@@ -7,6 +7,7 @@ use crate::joint::Joint;
 use crate::listed::{Listed, refuse_short_slice};
 use generators::bank::Bank;
 use hisc::guide::Guidance;
+use line::cells::Cells as Lent;
 use line::running::Running;
 use model::fault::{Fault, Layer};
 use std::fmt;
@@ -132,7 +133,7 @@ impl Tour {
     ) -> Result<(), Difference> {
         for _ in 0..=self.tally.bound {
             let rests = self.joint.rests(running.bank());
-            match running.guide(&mut cells.first, &mut cells.second, &mut cells.third) {
+            match ask(running, cells) {
                 Ok(Guidance::Event(event)) if !rests => {
                     way.push(event)?;
                     self.take(running, event)?;
@@ -150,8 +151,8 @@ impl Tour {
         running: &mut Running<B>,
         cells: &mut Cells,
     ) -> Result<(), Difference> {
-        let Ok(offers) = running.go_home(&mut cells.first, &mut cells.second, &mut cells.third)
-        else {
+        let Cells { first, second, third, .. } = cells;
+        let Ok(offers) = running.go_home(&mut Lent { first, second, third }) else {
             return Err(Difference::Guide);
         };
         let row = running.look();
@@ -214,6 +215,12 @@ impl Tour {
     }
 }
 
+// What the guide answers with cells enough.
+fn ask<B: Bank>(running: &Running<B>, cells: &mut Cells) -> Result<Guidance, Fault> {
+    let Cells { first, second, third, .. } = cells;
+    running.guide(&mut Lent { first, second, third })
+}
+
 // The guide refuses a slice that is a cell short, whichever of the three it is.
 fn refuse_short_cells<B: Bank>(
     running: &Running<B>,
@@ -227,9 +234,9 @@ fn refuse_short_cells<B: Bank>(
         short,
     } = cells;
     let reply = match trip % 3 {
-        0 => running.guide(short, second, third),
-        1 => running.guide(first, short, third),
-        _ => running.guide(first, second, short),
+        0 => running.guide(&mut Lent { first: short, second, third }),
+        1 => running.guide(&mut Lent { first, second: short, third }),
+        _ => running.guide(&mut Lent { first, second, third: short }),
     };
     match reply {
         Err(Fault::WorkCells { layer: Layer::Run }) => Ok(()),

@@ -4,6 +4,7 @@ use crate::flat::Flat;
 use crate::trips::run;
 use charts::chart::Chart;
 use generators::bank::Bank;
+use line::cells::Cells as Lent;
 use line::check::check;
 use line::line::Line;
 use line::passed::Passed;
@@ -39,10 +40,14 @@ fn judge<B: Bank + Drop>(line: Line<B>, cells: &mut Cells) -> Result<Passed<B>, 
         third,
         short,
     } = cells;
-    let line = handed_back(check(line, short, second, third))?;
-    let line = handed_back(check(line, first, short, third))?;
-    let line = handed_back(check(line, first, second, short))?;
-    match check(line, first, second, third) {
+    let mut lent = Lent { first: short, second, third };
+    let line = handed_back(check(line, &mut lent))?;
+    let mut lent = Lent { first, second: short, third };
+    let line = handed_back(check(line, &mut lent))?;
+    let mut lent = Lent { first, second, third: short };
+    let line = handed_back(check(line, &mut lent))?;
+    let mut lent = Lent { first, second, third };
+    match check(line, &mut lent) {
         Ok(passed) => Ok(passed),
         Err((fault, _)) => Err(fault),
     }

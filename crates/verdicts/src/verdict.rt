@@ -6,6 +6,7 @@ ghost use Rattle.walks.specs.Given.{line_from};
 ghost use Rattle.verdicts.specs.Verdicts.{CheckedAs, PassedKeepsLaw, VerdictOn, told_by, told_in};
 
 use generators::bank::Bank;
+use line::cells::Cells;
 use line::check::check;
 use line::line::Line;
 use linefile::bank::FileBank;
@@ -32,7 +33,12 @@ fn judge<B: Bank + Drop>(
     ensures answer { CheckedAs (line_from line.chart (B.Bank.list line.bank)) (length (B.Bank.list line.bank)) (cells_in (length first.old) (length second.old) (length third.old)) (told_in result) }
     ensures law { is_ok result ≡ true → Law (line_from line.chart (B.Bank.list line.bank)) }
 {
-    match check(line, first, second, third) {
+    let mut cells = Cells {
+        first,
+        second,
+        third,
+    };
+    match check(line, &mut cells) {
         Ok(passed) => Ok(Verdict::Passed {
             levels: passed.chart().levels(),
             sizes: passed.sizes(),

@@ -1,22 +1,18 @@
-use Rattle.std.proofs.Common.{length}
-use Rattle.points.specs.Examined.{cells_in}
+use Rattle.std.proofs.Common.{refl}
+use Rattle.line.specs.Lent.{lent}
 use Rattle.line.proofs.Judging.{checked-of}
 use Rattle.line.proofs.Rows.{law-of}
 use Rattle.line.proofs.check.check.Goals as goal
 
-pub seal-requires : goal.seal-requires
-seal-requires g c =
-    checked-of c.args.line.chart (g.B.Bank.list c.args.line.bank) (cells_in (length c.args.first.now) (length c.args.second.now) (length c.args.third.now)) c.in-Ok.ensures
+pub invariant_of-result : goal.invariant_of-result
+invariant_of-result g c = record { checked = ∣ checked-of g.B.Bank.list c.args.line (lent c.args.cells.now) c.in-Ok.ensures ∣₁ }
 
-pub returns-in-Ok : goal.returns-in-Ok
-returns-in-Ok g c =
-    let k = c.args.line.chart in
-    let b = c.args.line.bank in
+pub returns-in-Ok-clause-judged : goal.returns-in-Ok-clause-judged
+returns-in-Ok-clause-judged g c =
+    let line = c.args.line in
     let list = g.B.Bank.list in
-    let cells = cells_in (length c.args.first.now) (length c.args.second.now) (length c.args.third.now) in
     record {
       verdict = c.in-Ok.ensures;
-      same_bank = c.seal.ensures.0;
-      same_chart = c.seal.ensures.1;
-      law = law-of k (list b) (g.B.Bank.formed b) (checked-of k (list b) cells c.in-Ok.ensures);
+      same_line = refl;
+      law = law-of list line (g.B.Bank.formed line.bank) (checked-of list line (lent c.args.cells.now) c.in-Ok.ensures);
     }

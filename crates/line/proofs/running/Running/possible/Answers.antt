@@ -1,41 +1,44 @@
-use Rattle.std.proofs.Common.{◌≡◌, Bool, cond, length, take, sym, refl, ap, ◌∙◌, arith}
+use Rattle.std.proofs.Common.{◌≡◌, ℕ, ◌<◌, Bool, cond, length, sym, refl, ap, ◌∙◌, arith}
 use Rattle.std.proofs.lemmas.Bool.{le-leb, lt-leb}
 use Rattle.model.specs.declared.fault.Fault.TheVariants.{PossibleSlice}
-use Rattle.charts.specs.declared.chart.Chart.{Chart}
-use Rattle.hisc.specs.Calls.{Possible, events, refused, acceptable}
-use Rattle.walks.specs.Given.{line_from}
-use Rattle.walks.specs.Rows.{row_state}
-use Rattle.walks.specs.declared.row.Row.{Row}
+use Rattle.hisc.specs.Calls.{Possible, events, refused, acceptable, passing}
+use Rattle.hisc.specs.Lines.{flat, possible}
 use Rattle.line.specs.Answers.{line_in, state_in}
-use Rattle.line.proofs.Answering.{answered-same}
+use Rattle.line.proofs.Answering.{answered-same, stepped-possible, stepped-impossible}
+use Rattle.line.proofs.Listing.{listing-skip, listing-put}
 use Rattle.line.proofs.running.Running.possible.Goals as goal
+use Rattle.line.proofs.running.Running.possible.Goals.{then-is_ok, else-is_ok}
 
-pub returns-then-out-lt64 : goal.returns-then-out-lt64
-returns-then-out-lt64 g c =
-    let list = g.B.Bank.list in
+pub returns-then-out-lt64-clause-answered : goal.returns-then-out-lt64-clause-answered
+returns-then-out-lt64-clause-answered g c =
     let s = c.args.self.now in
     let n = length c.args.out.now in
-    record {
-      answered = answered-same list g.B.Bank.formed s c.row-row.ensures.1 (Possible n) (refused PossibleSlice)
-          (sym (ap (λ (b : Bool). cond b (events (acceptable (line_in list s) (state_in s))) (refused PossibleSlice)) (lt-leb 64 n c.if-out-lt64.true))) refl;
-      within = omega arith;
-      rest = refl;
-    }
+    answered-same s (Possible n) (refused PossibleSlice)
+    (sym (ap (λ (b : Bool). cond b (events (acceptable (line_in s) (state_in s))) (refused PossibleSlice)) (lt-leb 64 n c.if-out-lt64.true))) refl
 
-pub returns : goal.returns
-returns g c =
-    let list = g.B.Bank.list in
+pub loop-event-preserved : goal.loop-event-preserved
+loop-event-preserved g c =
+    let s = c.args.self.now in
+    let can = possible (line_in s) (flat (line_in s)) (state_in s) in
+    let before = c.args.out.now in
+    let out = c.loop-event.out in
+    let n = c.loop-event.event in
+    let k = c.loop-event.count in
+    elim c.if-is_ok.branch [
+      | then-is_ok w ↦
+          let room : k < length out = omega (arith, c.loop-event.invariant.few, c.events-event-end.ensures.rules.few_events, c.events-event-end.ensures.value) in
+          let put = listing-put can before out k n (stepped-possible s n c.step.result (sym c.is_ok.ensures.value ∙ w.if-is_ok.true) c.step.ensures) room c.loop-event.invariant in
+          rw (w.out-is, w.count-is) put
+      | else-is_ok w ↦
+          let skip = listing-skip can before out k n (stepped-impossible s n c.step.result (sym c.is_ok.ensures.value ∙ w.if-is_ok.false) c.step.ensures) c.loop-event.invariant in
+          rw (w.out-is, w.count-is) skip
+    ]
+
+pub returns-clause-answered : goal.returns-clause-answered
+returns-clause-answered g c =
     let s = c.args.self.now in
     let n = length c.args.out.now in
-    let k = c.list_possible.result in
-    let front : take k c.list_possible.new.out ≡ acceptable (line_in list s) (state_in s) =
-    c.list_possible.ensures.front
-    ∙ ap (λ (x : Chart). acceptable (line_from x (list c.bank.result.now)) (row_state c.row-row.result.now)) c.chart.ensures.0
-    ∙ ap (λ (y : g.row.B.Denot). acceptable (line_from s.chart (list y)) (row_state c.row-row.result.now)) c.bank.ensures.0
-    ∙ ap (λ (z : Row). acceptable (line_in list s) (row_state z)) c.row-row.ensures.0 in
-    record {
-      answered = answered-same list g.B.Bank.formed s c.row-row.ensures.1 (Possible n) (events (take k c.list_possible.new.out))
-          (ap events front ∙ sym (ap (λ (b : Bool). cond b (events (acceptable (line_in list s) (state_in s))) (refused PossibleSlice)) (le-leb 64 n c.if-out-lt64.false))) refl;
-      within = omega (arith, c.list_possible.ensures.within, c.list_possible.auto.out);
-      rest = c.list_possible.ensures.rest;
-    }
+    let all : c.loop-event.event ≡ (line_in s).chart.events = omega (arith, c.events-event-end.ensures.value) in
+    let front = c.loop-event.invariant.front ∙ ap (λ (m : ℕ). passing m (possible (line_in s) (flat (line_in s)) (state_in s))) all in
+    answered-same s (Possible n) _
+    (ap events front ∙ sym (ap (λ (b : Bool). cond b (events (acceptable (line_in s) (state_in s))) (refused PossibleSlice)) (le-leb 64 n c.if-out-lt64.false))) refl
