@@ -9,7 +9,7 @@ ghost use Rattle.hisc.specs.Lines.{line_of};
 ghost use Rattle.hisc.specs.Points.{answer_enabled, at_rest, to_answer};
 ghost use Rattle.hisc.specs.Guide.{named, any_answer, answer_or, by_kind, homeward, low_distance, not_at_rest, guide};
 ghost use Rattle.charts.specs.Meanings.{chart_of};
-ghost use Rattle.walks.specs.Given.{line_in};
+ghost use Rattle.walks.specs.Given.{line_given};
 ghost use Rattle.walks.specs.Rows.{row_state};
 ghost use Rattle.guidance.specs.Ready.{Ready, Gives, lent, maybe, step_by};
 
@@ -48,7 +48,7 @@ fn is_answer(chart: &Chart, event: u8) -> bool
 
 // The lowest answer that is possible in the level's walk.
 fn lowest_answer<B: Bank>(line: &Line<B>, row: &Row, level: u8) -> Guidance
-    ensures { result ≡ named (first (chart_of line.now.chart).events (answer_enabled (line_in B.list line.now) level (row_state row.now))) }
+    ensures { result ≡ named (first (chart_of line.now.chart).events (answer_enabled (line_given B.list line.now) level (row_state row.now))) }
 {
     for event in 0..line.chart.events() {
         if is_answer(&line.chart, event) && line.possible_at(Part::Low(level), row, event) {
@@ -67,7 +67,7 @@ fn toward_any<B: Bank>(
     keys: &mut [u32],
 ) -> Result<Guidance, Refusal>
     requires { IsLevel (chart_of line.now.chart) level }
-    ensures { Gives (line_in B.list line.now) (row_state row.now) (lent queue.old keys.old)
+    ensures { Gives (line_given B.list line.now) (row_state row.now) (lent queue.old keys.old)
         (λ l x. any_answer l level x) result }
 {
     let way = line.nearest(Aim::AnyAnswer(level), row, queue, keys)?;
@@ -84,7 +84,7 @@ fn toward_answer<B: Bank>(
     keys: &mut [u32],
 ) -> Result<Guidance, Refusal>
     requires { IsLevel (chart_of line.now.chart) level }
-    ensures { Gives (line_in B.list line.now) (row_state row.now) (lent queue.old keys.old)
+    ensures { Gives (line_given B.list line.now) (row_state row.now) (lent queue.old keys.old)
         (λ l x. answer_or l level event x (low_distance l level (to_answer l level event) x)) result }
 {
     match line.nearest(Aim::Answer { level, event }, row, queue, keys)? {
@@ -103,7 +103,7 @@ fn toward_wanted<B: Bank>(
     keys: &mut [u32],
 ) -> Result<Guidance, Refusal>
     requires { event < (chart_of line.now.chart).events }
-    ensures { Gives (line_in B.list line.now) (row_state row.now) (lent queue.old keys.old)
+    ensures { Gives (line_given B.list line.now) (row_state row.now) (lent queue.old keys.old)
         (λ l x. by_kind l (l.chart.kind event) event x) result }
 {
     match (line.chart.kind(event), line.chart.owner(event)) {
@@ -126,7 +126,7 @@ fn at_rest<B: Bank>(bank: &B, row: &Row, level: u8) -> bool
 
 // The lowest level whose plant or supervisor is unmarked.
 fn lowest_unrested<B: Bank>(line: &Line<B>, row: &Row) -> Option<u8>
-    ensures { maybe result ≡ first (suc (chart_of line.now.chart).levels) (not_at_rest (line_in B.list line.now) (row_state row.now)) }
+    ensures { maybe result ≡ first (suc (chart_of line.now.chart).levels) (not_at_rest (line_given B.list line.now) (row_state row.now)) }
 {
     for level in 1..=line.chart.levels() {
         if !at_rest(&line.bank, row, level) {
@@ -143,7 +143,7 @@ fn toward_rest<B: Bank>(
     queue: &mut [u32],
     keys: &mut [u32],
 ) -> Result<Guidance, Refusal>
-    ensures { Gives (line_in B.list line.now) (row_state row.now) (lent queue.old keys.old)
+    ensures { Gives (line_given B.list line.now) (row_state row.now) (lent queue.old keys.old)
         (λ l x. homeward l (first (suc l.chart.levels) (not_at_rest l x)) x) result }
 {
     let Some(level) = lowest_unrested(line, row) else {
@@ -160,8 +160,8 @@ pub fn advice<B: Bank>(
     queue: &mut [u32],
     keys: &mut [u32],
 ) -> Result<Guidance, Refusal>
-    ensures value { IfOk result (λ g. g ≡ guide (line_in B.list line.now) (row_state row.now)) }
-    ensures succeeds { Ready (line_in B.list line.now) (row_state row.now) (lent queue.old keys.old) → is_ok result ≡ true }
+    ensures value { IfOk result (λ g. g ≡ guide (line_given B.list line.now) (row_state row.now)) }
+    ensures succeeds { Ready (line_given B.list line.now) (row_state row.now) (lent queue.old keys.old) → is_ok result ≡ true }
 {
     match line.nearest(Aim::HighMarked, row, queue, keys)? {
         Way::Unreachable => Ok(Guidance::NoEvent),

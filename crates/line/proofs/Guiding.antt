@@ -23,8 +23,9 @@ use Rattle.measure.specs.Measured.{Measured, Unmeasured}
 use Rattle.measure.specs.declared.sizes.WalkSizes.{WalkSizes}
 use Rattle.points.proofs.Verdicts.{low-largest, enough-cells, few-cells-of}
 use Rattle.measure.proofs.WalkSizes.{none-refused}
-use Rattle.line.specs.Checked.{line_given, Runs}
-use Rattle.line.specs.declared.line.Line.{Line as Given}
+use Rattle.line.specs.Checked.{Runs}
+use Rattle.walks.specs.Given.{line_given}
+use Rattle.walks.specs.declared.line.Line.{Line as Given}
 use Rattle.line.proofs.Rows.{made}
 
 module _ (l : Line) where

@@ -15,7 +15,7 @@ use Rattle.hisc.specs.Sizes.{Cells, enough, bound}
 use Rattle.hisc.proofs.Laws.{asked, offered as offered-reply}
 use Rattle.hisc.proofs.Replies.{possible_accepted}
 use Rattle.line.specs.Answers.{line_in, state_in, Answered}
-use Rattle.line.specs.Checked.{line_given}
+use Rattle.walks.specs.Given.{line_given}
 use Rattle.line.specs.Home.{WentHome, NotGuided}
 use Rattle.line.specs.declared.running.Running.{Running}
 

@@ -17,8 +17,9 @@ use Rattle.hisc.proofs.Facts.{low_below, high-below, low_enabled-parts}
 use Rattle.hisc.proofs.Walks.{possible-alphabet, possible-like, moved-like, same-sym, reached-same}
 use Rattle.walks.specs.Rows.{row_state}
 use Rattle.walks.specs.declared.row.Row.{Row}
-use Rattle.line.specs.Checked.{line_given, Checked, Runs}
-use Rattle.line.specs.declared.line.Line.{Line as Given}
+use Rattle.line.specs.Checked.{Checked, Runs}
+use Rattle.walks.specs.Given.{line_given}
+use Rattle.walks.specs.declared.line.Line.{Line as Given}
 use Rattle.line.specs.declared.passed.Passed.{Passed}
 use Rattle.line.specs.declared.running.Running.{Running}
 

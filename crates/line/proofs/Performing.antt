@@ -6,7 +6,7 @@ use Rattle.generators.specs.declared.bank.Bank.{Ghosts}
 use Rattle.hisc.specs.Calls.{Call, Reply, reply, next, after, replies}
 use Rattle.hisc.specs.Lines.{Line, State}
 use Rattle.hisc.specs.Sizes.{Cells}
-use Rattle.line.specs.Checked.{line_given}
+use Rattle.walks.specs.Given.{line_given}
 use Rattle.line.specs.Answers.{line_in, state_in, Answered}
 use Rattle.line.specs.Queues.{call_of, reply_of, is_refused, refusals, Performed}
 use Rattle.line.specs.declared.queue.Call.{Call as CallGiven}

@@ -13,8 +13,9 @@ use Rattle.hisc.proofs.Made.{well-made}
 use Rattle.hisc.proofs.Replies.{length-row, row_at}
 use Rattle.walks.specs.Rows.{row_state}
 use Rattle.walks.specs.declared.row.Row.{Row}
-use Rattle.line.specs.Checked.{line_given, Checked, Runs}
-use Rattle.line.specs.declared.line.Line.{Line as Given}
+use Rattle.line.specs.Checked.{Checked, Runs}
+use Rattle.walks.specs.Given.{line_given}
+use Rattle.walks.specs.declared.line.Line.{Line as Given}
 
 module _ (l : Line) where
   -- 26 places that are 0 beyond the last component

@@ -8,7 +8,7 @@ use Rattle.hisc.specs.Calls.{Call, Reply, accepted, guidance, events, states, re
 use Rattle.hisc.specs.Law.{Assured}
 use Rattle.walks.specs.Rows.{row_state}
 use Rattle.walks.specs.declared.row.Row.{Row}
-use Rattle.line.specs.Checked.{line_given}
+use Rattle.walks.specs.Given.{line_given}
 use Rattle.line.specs.declared.running.Running.{Running}
 
 -- the reply to an offer

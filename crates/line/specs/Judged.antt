@@ -6,8 +6,8 @@ use Rattle.generators.specs.declared.bank.Bank.{Ghosts}
 use Rattle.hisc.specs.Law.{Law}
 use Rattle.hisc.specs.Sizes.{Cells}
 use Rattle.hisc.specs.Verdict.{Verdict}
-use Rattle.line.specs.Checked.{line_given}
-use Rattle.line.specs.declared.line.Line.{Line as Given}
+use Rattle.walks.specs.Given.{line_given}
+use Rattle.walks.specs.declared.line.Line.{Line as Given}
 use Rattle.line.specs.declared.passed.Passed.{Passed}
 
 module _ {B : Type 0} (list : B → List Gen) where

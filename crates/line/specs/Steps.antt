@@ -8,8 +8,9 @@ use Rattle.hisc.specs.Lines.{State, moved}
 use Rattle.hisc.specs.Calls.{accepted, refused, offer_reply}
 use Rattle.walks.specs.Rows.{row_state}
 use Rattle.walks.specs.declared.row.Row.{Row}
-use Rattle.line.specs.Checked.{line_given, Runs}
-use Rattle.line.specs.declared.line.Line.{Line as Given}
+use Rattle.line.specs.Checked.{Runs}
+use Rattle.walks.specs.Given.{line_given}
+use Rattle.walks.specs.declared.line.Line.{Line as Given}
 
 -- the state of a component after an event to which it gives this reply; none if it knows the event and forbids it
 abbrev pub followed : Next → ℕ → Option ℕ

@@ -5,7 +5,7 @@ ghost use Rattle.hisc.specs.Law.{Assured, Law};
 ghost use Rattle.hisc.specs.Lines.{initial};
 ghost use Rattle.hisc.specs.Sizes.{bound};
 ghost use Rattle.line.specs.Answers.{offered, guided, written, listed, shown, line_in, state_in, Answered};
-ghost use Rattle.line.specs.Checked.{line_given};
+ghost use Rattle.walks.specs.Given.{line_given};
 ghost use Rattle.line.specs.Home.{Homeward};
 ghost use Rattle.line.specs.Lent.{lent};
 
@@ -73,14 +73,7 @@ impl<B: Bank> Running<B> {
             return Err(Fault::WorkCells { layer: Layer::Run });
         }
         let line = &self.passed.line;
-        Ok(advice(
-            &line.chart,
-            &line.bank,
-            &self.row,
-            cells.first,
-            cells.second,
-        )
-        .unwrap())
+        Ok(advice(line, &self.row, cells.first, cells.second).unwrap())
     }
 
     // The states of the components, 0 beyond the last.

@@ -1,12 +1,12 @@
 // The check: it takes a line, and hands over a passed line, or the first fault and the line.
 ghost use Rattle.std.specs.Prelude.{◌≡◌};
-ghost use Rattle.line.specs.Checked.{line_given};
+ghost use Rattle.walks.specs.Given.{line_given};
 ghost use Rattle.line.specs.Judged.{Judged};
 ghost use Rattle.line.specs.Lent.{lent};
 ghost use Rattle.measure.specs.Measured.{sizes_of};
 
 use crate::cells::Cells;
-use crate::line::Line;
+use walks::line::Line;
 use crate::passed::Passed;
 use generators::bank::Bank;
 use measure::sizes::WalkSizes;
@@ -19,13 +19,7 @@ pub fn check<B: Bank>(line: Line<B>, cells: &mut Cells<'_>) -> Result<Passed<B>,
     ensures lengths { lent cells.new ≡ lent cells.old }
 {
     // A `match`, since each arm moves the line.
-    match examine(
-        &line.chart,
-        &line.bank,
-        cells.first,
-        cells.second,
-        cells.third,
-    ) {
+    match examine(&line, cells.first, cells.second, cells.third) {
         Ok(()) => Ok(Passed { line }),
         Err(fault) => Err((fault, line)),
     }
@@ -36,6 +30,6 @@ impl<B: Bank> Passed<B> {
     pub fn sizes(&self) -> WalkSizes
         ensures { result ≡ sizes_of (line_given B.Bank.list self.now.line) }
     {
-        WalkSizes::of(&self.line.chart, &self.line.bank).unwrap()
+        WalkSizes::of(&self.line).unwrap()
     }
 }

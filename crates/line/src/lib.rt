@@ -4,7 +4,6 @@
 pub mod calls;
 pub mod cells;
 pub mod check;
-pub mod line;
 pub mod passed;
 pub mod perform;
 pub mod queue;

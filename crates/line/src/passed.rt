@@ -2,7 +2,7 @@
 ghost use Rattle.std.specs.Prelude.{◌≡◌};
 ghost use Rattle.line.specs.Checked.{Checked};
 
-use crate::line::Line;
+use walks::line::Line;
 use charts::chart::Chart;
 use generators::bank::Bank;
 

@@ -2,7 +2,8 @@
 ghost use Rattle.std.specs.Prelude.{◌≡◌, ◌+◌, ◌*◌, ◌≤◌, slice_index_or};
 ghost use Rattle.charts.specs.Meanings.{chart_of};
 ghost use Rattle.hisc.specs.Lines.{initial};
-ghost use Rattle.line.specs.Checked.{line_given, Runs};
+ghost use Rattle.line.specs.Checked.{Runs};
+ghost use Rattle.walks.specs.Given.{line_given};
 ghost use Rattle.line.specs.Steps.{followed, Stepped};
 ghost use Rattle.model.specs.Generators.{nothing};
 ghost use Rattle.walks.specs.Rows.{row_state};

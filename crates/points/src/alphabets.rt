@@ -5,7 +5,7 @@ ghost use Rattle.model.specs.Sets.{member};
 ghost use Rattle.hisc.specs.Lines.{WellMade, components};
 ghost use Rattle.hisc.specs.Points.{alphabet_of};
 ghost use Rattle.hisc.specs.Verdict.{alphabet_known, listed};
-ghost use Rattle.walks.specs.Given.{line_from, line_in};
+ghost use Rattle.walks.specs.Given.{line_from, line_given};
 ghost use Rattle.points.specs.Lowest.{alike, Found};
 ghost use Rattle.points.specs.Tried.{TriedAll};
 
@@ -44,8 +44,8 @@ fn difference<B: Bank>(bank: &B, component: u8, alphabet: EventSet) -> Option<u8
 
 // Tries the first point, component by component.
 pub(crate) fn alphabets_known<B: Bank>(line: &Line<B>) -> Result<(), Fault>
-    requires { WellMade (line_in B.list line.now) }
-    ensures { TriedAll (line_in B.list line.now) (listed (components (line_in B.list line.now)) (λ c. alphabet_known c ∷ [])) result }
+    requires { WellMade (line_given B.list line.now) }
+    ensures { TriedAll (line_given B.list line.now) (listed (components (line_given B.list line.now)) (λ c. alphabet_known c ∷ [])) result }
 {
     for component in 0..2 + 3 * line.chart.levels() {
         if let Some(event) = difference(&line.bank, component, alphabet(&line.chart, component)) {

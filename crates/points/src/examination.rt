@@ -5,7 +5,7 @@ ghost use Rattle.hisc.specs.Lines.{WellMade, high, low};
 ghost use Rattle.hisc.specs.Sizes.{size, largest_walk};
 ghost use Rattle.hisc.specs.Verdict.{Verdict, tests};
 ghost use Rattle.points.specs.Examined.{cells_in, fault_in};
-ghost use Rattle.walks.specs.Given.{line_in};
+ghost use Rattle.walks.specs.Given.{line_given};
 ghost use Rattle.points.specs.Tried.{TriedAll};
 
 use crate::alphabets::alphabets_known;
@@ -22,13 +22,13 @@ fn ten_points<B: Bank>(
     second: &mut [u32],
     third: &mut [u32],
 ) -> Result<(), Fault>
-    requires made { WellMade (line_in B.list line.now) }
-    requires lows { (j : ℕ) → IsLevel (line_in B.list line.now).chart j → size (line_in B.list line.now) (low (line_in B.list line.now) j) ≤ 4096 }
-    requires top { size (line_in B.list line.now) (high (line_in B.list line.now)) ≤ 4096 }
-    requires first { largest_walk (line_in B.list line.now) ≤ length first.old }
-    requires second { largest_walk (line_in B.list line.now) ≤ length second.old }
-    requires third { largest_walk (line_in B.list line.now) ≤ length third.old }
-    ensures { TriedAll (line_in B.list line.now) (tests (line_in B.list line.now)) result }
+    requires made { WellMade (line_given B.list line.now) }
+    requires lows { (j : ℕ) → IsLevel (line_given B.list line.now).chart j → size (line_given B.list line.now) (low (line_given B.list line.now) j) ≤ 4096 }
+    requires top { size (line_given B.list line.now) (high (line_given B.list line.now)) ≤ 4096 }
+    requires first { largest_walk (line_given B.list line.now) ≤ length first.old }
+    requires second { largest_walk (line_given B.list line.now) ≤ length second.old }
+    requires third { largest_walk (line_given B.list line.now) ≤ length third.old }
+    ensures { TriedAll (line_given B.list line.now) (tests (line_given B.list line.now)) result }
 {
     alphabets_known(line)?;
     command_pairs(line, first, second)?;
@@ -43,7 +43,7 @@ pub fn examine<B: Bank>(
     second: &mut [u32],
     third: &mut [u32],
 ) -> Result<(), Fault>
-    ensures { Verdict (line_in B.list line.now) (length (B.list line.now.bank)) (cells_in (length first.old) (length second.old) (length third.old)) (fault_in result) }
+    ensures { Verdict (line_given B.list line.now) (length (B.list line.now.bank)) (cells_in (length first.old) (length second.old) (length third.old)) (fault_in result) }
 {
     let sizes = WalkSizes::of(line)?;
     let shortest = first.len().min(second.len()).min(third.len());

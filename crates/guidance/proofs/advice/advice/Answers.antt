@@ -3,7 +3,7 @@ use Rattle.model.specs.Numbers.{first}
 use Rattle.hisc.specs.Guide.{by_kind, homeward, not_at_rest, guide}
 use Rattle.walks.specs.Rows.{row_state}
 use Rattle.walks.specs.declared.aim.Aim.TheVariants.{HighMarked}
-use Rattle.walks.specs.Given.{line_in}
+use Rattle.walks.specs.Given.{line_given}
 use Rattle.guidance.specs.Ready.{lent}
 use Rattle.guidance.proofs.Rules.{gives-on, guide-none, guide-here, guide-by}
 use Rattle.guidance.proofs.Ways.{nearest-is}
@@ -11,7 +11,7 @@ use Rattle.guidance.proofs.advice.advice.Goals as goal
 
 pub toward_wanted-requires : goal.toward_wanted-requires
 toward_wanted-requires g c =
-    let l = line_in g.B.Bank.list c.args.line.now in
+    let l = line_given g.B.Bank.list c.args.line.now in
     let x = row_state c.args.row.now in
     let cells = lent c.args.queue.now c.args.keys.now in
     let way = nearest-is l HighMarked x cells c.in_ok-nearest.field-0 c.in_ok-nearest.ensures.value in
@@ -19,7 +19,7 @@ toward_wanted-requires g c =
 
 pub returns-in-Unreachable : goal.returns-in-Unreachable
 returns-in-Unreachable g c =
-    let l = line_in g.B.Bank.list c.args.line.now in
+    let l = line_given g.B.Bank.list c.args.line.now in
     let x = row_state c.args.row.now in
     let cells = lent c.args.queue.now c.args.keys.now in
     let way = nearest-is l HighMarked x cells c.in_ok-nearest.field-0 c.in_ok-nearest.ensures.value in
@@ -27,7 +27,7 @@ returns-in-Unreachable g c =
 
 pub returns-in-Here : goal.returns-in-Here
 returns-in-Here g c =
-    let l = line_in g.B.Bank.list c.args.line.now in
+    let l = line_given g.B.Bank.list c.args.line.now in
     let x = row_state c.args.row.now in
     let cells = lent c.args.queue.now c.args.keys.now in
     let way = nearest-is l HighMarked x cells c.in_ok-nearest.field-0 c.in_ok-nearest.ensures.value in
@@ -37,7 +37,7 @@ returns-in-Here g c =
 
 pub returns-in-By : goal.returns-in-By
 returns-in-By g c =
-    let l = line_in g.B.Bank.list c.args.line.now in
+    let l = line_given g.B.Bank.list c.args.line.now in
     let x = row_state c.args.row.now in
     let cells = lent c.args.queue.now c.args.keys.now in
     let e = c.in-By.event in

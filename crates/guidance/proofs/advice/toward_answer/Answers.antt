@@ -4,7 +4,7 @@ use Rattle.hisc.specs.Points.{to_answer}
 use Rattle.hisc.specs.declared.guide.Guidance.TheVariants.{Event}
 use Rattle.walks.specs.Rows.{row_state}
 use Rattle.walks.specs.declared.aim.Aim.TheVariants.{Answer}
-use Rattle.walks.specs.Given.{line_in}
+use Rattle.walks.specs.Given.{line_given}
 use Rattle.guidance.specs.Ready.{lent}
 use Rattle.guidance.proofs.Rules.{gives-ok, falls-back, answer-here, answer-by}
 use Rattle.guidance.proofs.Ways.{nearest-is}
@@ -12,7 +12,7 @@ use Rattle.guidance.proofs.advice.toward_answer.Goals as goal
 
 pub returns-in-Unreachable : goal.returns-in-Unreachable
 returns-in-Unreachable g c =
-    let l = line_in g.B.Bank.list c.args.line.now in
+    let l = line_given g.B.Bank.list c.args.line.now in
     let x = row_state c.args.row.now in
     let cells = lent c.args.queue.now c.args.keys.now in
     let j = c.args.level in
@@ -25,7 +25,7 @@ returns-in-Unreachable g c =
 
 pub returns-in-Here : goal.returns-in-Here
 returns-in-Here g c =
-    let l = line_in g.B.Bank.list c.args.line.now in
+    let l = line_given g.B.Bank.list c.args.line.now in
     let x = row_state c.args.row.now in
     let cells = lent c.args.queue.now c.args.keys.now in
     let j = c.args.level in
@@ -35,7 +35,7 @@ returns-in-Here g c =
 
 pub returns-in-By : goal.returns-in-By
 returns-in-By g c =
-    let l = line_in g.B.Bank.list c.args.line.now in
+    let l = line_given g.B.Bank.list c.args.line.now in
     let x = row_state c.args.row.now in
     let cells = lent c.args.queue.now c.args.keys.now in
     let j = c.args.level in

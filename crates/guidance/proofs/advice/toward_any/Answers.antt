@@ -3,7 +3,7 @@ use Rattle.hisc.specs.Guide.{any_answer}
 use Rattle.hisc.specs.declared.guide.Guidance.{Guidance}
 use Rattle.walks.specs.Rows.{row_state}
 use Rattle.walks.specs.declared.aim.Aim.TheVariants.{AnyAnswer}
-use Rattle.walks.specs.Given.{line_in}
+use Rattle.walks.specs.Given.{line_given}
 use Rattle.guidance.specs.Ready.{lent}
 use Rattle.guidance.specs.Ready.{step_by}
 use Rattle.guidance.proofs.Rules.{gives-ok, any_step}
@@ -12,7 +12,7 @@ use Rattle.guidance.proofs.advice.toward_any.Goals as goal
 
 pub returns : goal.returns
 returns g c =
-    let l = line_in g.B.Bank.list c.args.line.now in
+    let l = line_given g.B.Bank.list c.args.line.now in
     let x = row_state c.args.row.now in
     let cells = lent c.args.queue.now c.args.keys.now in
     let j = c.args.level in

@@ -4,7 +4,7 @@ use Rattle.model.specs.Numbers.{first}
 use Rattle.hisc.specs.Guide.{homeward, not_at_rest}
 use Rattle.walks.specs.Rows.{row_state}
 use Rattle.walks.specs.declared.aim.Aim.TheVariants.{AtRest}
-use Rattle.walks.specs.Given.{line_in}
+use Rattle.walks.specs.Given.{line_given}
 use Rattle.guidance.specs.Ready.{lent}
 use Rattle.guidance.proofs.Lowest.{unrested-level}
 use Rattle.guidance.proofs.Rules.{gives-ok, gives-refused, rest-step}
@@ -13,7 +13,7 @@ use Rattle.guidance.proofs.advice.toward_rest.Goals as goal
 
 pub returns-in_err-way : goal.returns-in_err-way
 returns-in_err-way g c =
-    let l = line_in g.B.Bank.list c.args.line.now in
+    let l = line_given g.B.Bank.list c.args.line.now in
     let x = row_state c.args.row.now in
     let cells = lent c.args.queue.now c.args.keys.now in
     let j = c.in-Some.level in
@@ -23,7 +23,7 @@ returns-in_err-way g c =
 
 pub returns : goal.returns
 returns g c =
-    let l = line_in g.B.Bank.list c.args.line.now in
+    let l = line_given g.B.Bank.list c.args.line.now in
     let x = row_state c.args.row.now in
     let cells = lent c.args.queue.now c.args.keys.now in
     let j = c.in-Some.level in

@@ -1,5 +1,5 @@
 use Rattle.hisc.proofs.Replies.{calls-agree}
-use Rattle.line.specs.Checked.{line_given}
+use Rattle.walks.specs.Given.{line_given}
 use Rattle.line.proofs.Known.{checked_in}
 use Rattle.line.proofs.Rows.{law-of, assured-of}
 use Rattle.line.proofs.calls.make.Goals as goal

@@ -6,14 +6,14 @@ use Rattle.hisc.specs.Sizes.{largest_walk}
 use Rattle.hisc.specs.Verdict.{few_cells}
 use Rattle.hisc.proofs.Made.{well-made}
 use Rattle.points.specs.Examined.{cells_in}
-use Rattle.walks.specs.Given.{line_in}
+use Rattle.walks.specs.Given.{line_given}
 use Rattle.points.proofs.Verdicts.{enough-cells, few-cells-of, judged, largest-of, unmeasured}
 use Rattle.points.proofs.examination.examine.Goals as goal
 
 pub returns-in_err-sizes : goal.returns-in_err-sizes
 returns-in_err-sizes g c =
     let gens = g.B.Bank.list c.args.line.now.bank in
-    let l = line_in g.B.Bank.list c.args.line.now in
+    let l = line_given g.B.Bank.list c.args.line.now in
     let p = err_from_is_err_and c.from_residual.result c.from_residual.ensures.1 in
     rw (p.1, p.2) (unmeasured l (length gens) (cells_in (length c.args.first.now) (length c.args.second.now) (length c.args.third.now)) _ c.in_err-sizes.ensures)
 
@@ -21,7 +21,7 @@ pub returns-then-shortest-largest : goal.returns-then-shortest-largest
 returns-then-shortest-largest g c =
     let k = c.args.line.now.chart in
     let gens = g.B.Bank.list c.args.line.now.bank in
-    let l = line_in g.B.Bank.list c.args.line.now in
+    let l = line_given g.B.Bank.list c.args.line.now in
     let q = c.in_ok-sizes.ensures in
     let n : c.largest.result ≡ largest_walk l = c.largest.ensures ∙ largest-of l (well-charted k).few_levels c.in_ok-sizes.sizes q.1 in
     few_cells q.0
@@ -31,7 +31,7 @@ pub ten_points-requires : goal.ten_points-requires
 ten_points-requires g c =
     let k = c.args.line.now.chart in
     let gens = g.B.Bank.list c.args.line.now.bank in
-    let l = line_in g.B.Bank.list c.args.line.now in
+    let l = line_given g.B.Bank.list c.args.line.now in
     let q = c.in_ok-sizes.ensures in
     let n : c.largest.result ≡ largest_walk l = c.largest.ensures ∙ largest-of l (well-charted k).few_levels c.in_ok-sizes.sizes q.1 in
     record {
@@ -47,7 +47,7 @@ pub returns : goal.returns
 returns g c =
     let k = c.args.line.now.chart in
     let gens = g.B.Bank.list c.args.line.now.bank in
-    let l = line_in g.B.Bank.list c.args.line.now in
+    let l = line_given g.B.Bank.list c.args.line.now in
     let q = c.in_ok-sizes.ensures in
     let n : c.largest.result ≡ largest_walk l = c.largest.ensures ∙ largest-of l (well-charted k).few_levels c.in_ok-sizes.sizes q.1 in
     judged l (length gens) (cells_in (length c.args.first.now) (length c.args.second.now) (length c.args.third.now)) q.0
