@@ -6,12 +6,12 @@ ghost use Rattle.line.specs.Lent.{lent};
 ghost use Rattle.measure.specs.Measured.{sizes_of};
 
 use crate::cells::Cells;
-use walks::line::Line;
 use crate::passed::Passed;
 use generators::bank::Bank;
 use measure::sizes::WalkSizes;
 use model::fault::Fault;
 use points::examination::examine;
+use walks::line::Line;
 
 // Tries the ten points, each level alone. A line that passes keeps the law over every queue of calls.
 pub fn check<B: Bank>(line: Line<B>, cells: &mut Cells<'_>) -> Result<Passed<B>, (Fault, Line<B>)>

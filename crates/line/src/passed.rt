@@ -2,9 +2,9 @@
 ghost use Rattle.std.specs.Prelude.{◌≡◌};
 ghost use Rattle.line.specs.Checked.{Checked};
 
-use walks::line::Line;
 use charts::chart::Chart;
 use generators::bank::Bank;
+use walks::line::Line;
 
 // Every such value carries what the check found.
 #[derive(Drop)]
