@@ -28,10 +28,10 @@ impl Verdict {
     }
 }
 
-// What is told of a file: the verdict, or the first fault.
-pub struct Told(pub Result<Verdict, Fault>);
+// What is reported of a file: the verdict, or the first fault.
+pub struct Report(pub Result<Verdict, Fault>);
 
-impl fmt::Display for Told {
+impl fmt::Display for Report {
     fn fmt<W: fmt::Write>(&self, f: &mut fmt::Formatter<W>) -> fmt::Result {
         match &self.0 {
             Ok(Verdict { levels, events }) => write!(f, "read {levels} {events}"),

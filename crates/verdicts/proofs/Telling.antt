@@ -9,7 +9,6 @@ use Rattle.hisc.specs.Law.{Law}
 use Rattle.hisc.specs.Lines.{high}
 use Rattle.hisc.specs.Sizes.{Cells, size}
 use Rattle.verdicts.specs.declared.verdict.Verdict.{Verdict}
-use Rattle.verdicts.specs.declared.verdict.Verdict.TheVariants.{Passed, Faulty}
 use Rattle.verdicts.specs.Verdicts.{FileLine, the_line, line_reading, Told, passed, faulty, told_in, CheckedAs, VerdictOn, refused, sound, PassedKeepsLaw}
 use Rattle.verdicts.proofs.OneVerdict.{same_line}
 
@@ -37,6 +36,5 @@ module _ (file : List ℕ) where
     told-so (faulty f) h = refused m read h
 
     pub law-kept : (r : Result Verdict Fault) → (is_ok r ≡ true → Law (the_line m)) → PassedKeepsLaw file (told_in r)
-    law-kept (Ok (Passed levels sizes)) h = λ n q. subst (λ (k : FileLine). Law (the_line k)) (same_line file m n read q) (h refl)
-    law-kept (Ok (Faulty f)) h = tt
+    law-kept (Ok v) h = λ n q. subst (λ (k : FileLine). Law (the_line k)) (same_line file m n read q) (h refl)
     law-kept (Err f) h = tt

@@ -6,7 +6,7 @@ use Rattle.linefile.specs.Layout.{texts}
 use Rattle.points.specs.Examined.{cells_in}
 use Rattle.verdicts.specs.Verdicts.{unread, told_in}
 use Rattle.verdicts.proofs.Telling.{chart-unread, bank-unread, line_read, told-so, law-kept}
-use Rattle.verdicts.proofs.verdict.read_and_judge.Goals as goal
+use Rattle.verdicts.proofs.verdict.Verdict.on.Goals as goal
 
 pub returns-in_err-chart : goal.returns-in_err-chart
 returns-in_err-chart c =
