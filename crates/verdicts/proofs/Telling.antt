@@ -14,19 +14,14 @@ use Rattle.verdicts.proofs.OneVerdict.{same_line}
 
 module _ (file : List ℕ) where
   pub chart-unread : (f : Fault) → chart_reading file ≡ Err f → line_reading file ≡ Err f
-  chart-unread f h =
-      ap (λ (r : Result EventChart Fault). and_then r (λ chart. and_then (bank_reading file) (λ gens. Ok (record { chart = chart; components = gens })))) h
+  chart-unread f h = cc
 
   module _ (chart : EventChart) (read : chart_reading file ≡ Ok chart) where
     pub bank-unread : (f : Fault) → bank_reading file ≡ Err f → line_reading file ≡ Err f
-    bank-unread f h =
-        ap (λ (r : Result EventChart Fault). and_then r (λ k. and_then (bank_reading file) (λ gens. Ok (record { chart = k; components = gens })))) read
-        ∙ ap (λ (r : Result (List Gen) Fault). and_then r (λ gens. Ok (record { chart = chart; components = gens }))) h
+    bank-unread f h = cc
 
     pub line_read : (gens : List Gen) → bank_reading file ≡ Ok gens → line_reading file ≡ Ok (record { chart = chart; components = gens })
-    line_read gens h =
-        ap (λ (r : Result EventChart Fault). and_then r (λ k. and_then (bank_reading file) (λ gens. Ok (record { chart = k; components = gens })))) read
-        ∙ ap (λ (r : Result (List Gen) Fault). and_then r (λ gens. Ok (record { chart = chart; components = gens }))) h
+    line_read gens h = cc
 
   module _ (m : FileLine) (read : line_reading file ≡ Ok m) (cells : Cells) where
     pub told-so : (t : Told) → CheckedAs (the_line m) (length m.components) cells t → VerdictOn file cells t
@@ -34,7 +29,3 @@ module _ (file : List ℕ) where
         subst (λ (n : ℕ). VerdictOn file cells (passed n lows)) (sym h.1)
         (subst (λ (w : List ℕ). VerdictOn file cells (passed (size (the_line m) (high (the_line m))) w)) (sym h.2) (sound m read h.0))
     told-so (faulty f) h = refused m read h
-
-    pub law-kept : (r : Result Verdict Fault) → (is_ok r ≡ true → Law (the_line m)) → PassedKeepsLaw file (told_in r)
-    law-kept (Ok v) h = λ n q. subst (λ (k : FileLine). Law (the_line k)) (same_line file m n read q) (h refl)
-    law-kept (Err f) h = tt

@@ -43,10 +43,8 @@ fn judge<B: Bank + Drop>(
     ensures answer { CheckedAs (line_from line.chart (B.Bank.list line.bank)) (length (B.Bank.list line.bank)) (cells_in (length first.old) (length second.old) (length third.old)) (told_in result) }
     ensures law { is_ok result ≡ true → Law (line_from line.chart (B.Bank.list line.bank)) }
 {
-    match check(line, first, second, third) {
-        Ok(passed) => Ok(Verdict::from(&passed)),
-        Err((fault, _)) => Err(fault),
-    }
+    let passed = check(line, first, second, third).map_err(|(fault, _)| fault)?;
+    Ok(Verdict::from(&passed))
 }
 
 impl Verdict {

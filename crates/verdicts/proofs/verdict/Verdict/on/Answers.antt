@@ -5,34 +5,23 @@ use Rattle.linefile.specs.Bank.{list_from}
 use Rattle.linefile.specs.Layout.{texts}
 use Rattle.points.specs.Examined.{cells_in}
 use Rattle.verdicts.specs.Verdicts.{unread, told_in}
-use Rattle.verdicts.proofs.Telling.{chart-unread, bank-unread, line_read, told-so, law-kept}
+use Rattle.verdicts.proofs.Telling.{chart-unread, bank-unread, line_read, told-so}
 use Rattle.verdicts.proofs.verdict.Verdict.on.Goals as goal
 
-pub returns-in_err-chart : goal.returns-in_err-chart
-returns-in_err-chart c =
+pub returns-in_err-chart-clause-answer : goal.returns-in_err-chart-clause-answer
+returns-in_err-chart-clause-answer c =
     let p = err_from_is_err_and c.from_residual.result c.from_residual.ensures.1 in
     rw (p.1, p.2)
-    (record { answer = unread (chart-unread c.args.file.now c.in_err-chart.field-0.0 (sym c.in_err-chart.ensures)); law = tt })
+    (unread (chart-unread c.args.file.now _ (sym c.in_err-chart.ensures)))
 
-pub returns-in_err-bank : goal.returns-in_err-bank
-returns-in_err-bank c =
+pub returns-in_err-bank-clause-answer : goal.returns-in_err-bank-clause-answer
+returns-in_err-bank-clause-answer c =
     let p = err_from_is_err_and c.from_residual-in_err-bank.result c.from_residual-in_err-bank.ensures.1 in
-    let k = c.in_ok-chart.chart in
     rw (p.1, p.2)
-    (record {
-      answer = unread (bank-unread c.args.file.now (chart_of k) (sym c.in_ok-chart.ensures) c.in_err-bank.field-0.0 (sym c.in_err-bank.ensures));
-      law = tt;
-    })
+    (unread (bank-unread c.args.file.now _ (sym c.in_ok-chart.ensures) _ (sym c.in_err-bank.ensures)))
 
-pub returns : goal.returns
-returns c =
+pub returns-clause-answer : goal.returns-clause-answer
+returns-clause-answer c =
     let file = c.args.file.now in
-    let k = c.in_ok-chart.chart in
-    let b = c.in_ok-bank.bank in
-    let gens = list_from b.len b.events b.alphabets (texts b.bodies) in
-    let cells = cells_in (length c.args.first.now) (length c.args.second.now) (length c.args.third.now) in
-    let read = line_read file (chart_of k) (sym c.in_ok-chart.ensures) gens (sym c.in_ok-bank.ensures) in
-    record {
-      answer = told-so file _ read cells (told_in c.judge.result) c.judge.ensures.answer;
-      law = law-kept file _ read cells c.judge.result c.judge.ensures.law;
-    }
+    let read = line_read file _ (sym c.in_ok-chart.ensures) _ (sym c.in_ok-bank.ensures) in
+    told-so file _ read _ (told_in c.judge.result) c.judge.ensures.answer
