@@ -1,15 +1,14 @@
 // The trial of a line over any bank.
 use crate::cells::Cells;
-use crate::flat::Flat;
+use crate::flat::{Flat, LIMIT, Unbuilt};
 use crate::trips::run;
-use charts::chart::Chart;
 use generators::bank::Bank;
 use line::check::check;
 use line::line::Line;
 use line::passed::Passed;
 use measure::sizes::WalkSizes;
 use model::fault::{Fault, Layer};
-use verdicts::verdict::Verdict;
+use verdicts::verdict::{Report, Verdict};
 
 // The line again, where a check refused its cells, or the fault that comes before these. A check that passed or tried the points with too few cells
 // is told by the fault that it should have found.
@@ -20,14 +19,16 @@ fn handed_back<B: Bank + Drop>(
         layer: Layer::Check,
     };
     match checked {
-        Ok(_) => Err(cells),
-        Err((fault, line)) => match fault {
-            Fault::WorkCells {
-                layer: Layer::Check,
-            } => Ok(line),
-            Fault::Components | Fault::WalkSize { .. } => Err(fault),
-            _ => Err(cells),
-        },
+        Err(
+            (
+                Fault::WorkCells {
+                    layer: Layer::Check,
+                },
+                line,
+            ),
+        ) => Ok(line),
+        Err((fault @ (Fault::Components | Fault::WalkSize { .. }), _)) => Err(fault),
+        _ => Err(cells),
     }
 }
 
@@ -42,41 +43,39 @@ fn judge<B: Bank + Drop>(line: Line<B>, cells: &mut Cells) -> Result<Passed<B>, 
     let line = handed_back(check(line, short, second, third))?;
     let line = handed_back(check(line, first, short, third))?;
     let line = handed_back(check(line, first, second, short))?;
-    match check(line, first, second, third) {
-        Ok(passed) => Ok(passed),
-        Err((fault, _)) => Err(fault),
-    }
+    check(line, first, second, third).map_err(|(fault, _)| fault)
 }
 
 // The size of the largest walk; 1 if the line has too large a walk, or too few or too many components.
-fn cells_needed<B: Bank>(chart: &Chart, bank: &B) -> usize {
-    match WalkSizes::of(chart, bank) {
-        Ok(sizes) => sizes.largest() as usize,
-        Err(_) => 1,
-    }
+fn cells_needed<B: Bank>(line: &Line<B>) -> usize {
+    WalkSizes::of(&line.chart, &line.bank).map_or(1, |sizes| sizes.largest() as usize)
 }
 
-pub fn try_line<B: Bank + Drop>(
+// Writes the verdict that just enough cells give, and what the joint line does.
+fn tell(
     rt: &HostRuntime,
     name: &str,
-    chart: Chart,
-    bank: B,
+    report: Report,
+    flat: Result<Flat, Unbuilt>,
 ) -> anyhow::Result<()> {
-    let mut cells = Cells::new(rt.alloc(), cells_needed(&chart, &bank))?;
-    let flat = Flat::of(rt.alloc(), &chart, &bank)?;
-    match judge(Line { chart, bank }, &mut cells) {
+    match flat {
+        Ok(flat) => println!(rt; "{name}: with just enough cells {report}; {flat}")?,
+        Err(Unbuilt::TooLarge) => {
+            println!(rt; "{name}: with just enough cells {report}; flat above {LIMIT} states")?
+        }
+        Err(Unbuilt::Memory(error)) => return Err(error.into()),
+    }
+    Ok(())
+}
+
+pub fn try_line<B: Bank + Drop>(rt: &HostRuntime, name: &str, line: Line<B>) -> anyhow::Result<()> {
+    let mut cells = Cells::new(rt.alloc(), cells_needed(&line))?;
+    let flat = Flat::of(rt.alloc(), &line);
+    match judge(line, &mut cells) {
         Ok(passed) => {
-            let verdict = Verdict::Passed {
-                levels: passed.chart().levels(),
-                sizes: passed.sizes(),
-            };
-            println!(rt; "{name}: with just enough cells {verdict}; {flat}")?;
+            tell(rt, name, Report(Ok(Verdict::from(&passed))), flat)?;
             run(rt, name, passed, &mut cells)
         }
-        Err(fault) => {
-            let verdict = Verdict::Faulty(fault);
-            println!(rt; "{name}: with just enough cells {verdict}; {flat}")?;
-            Ok(())
-        }
+        Err(fault) => tell(rt, name, Report(Err(fault)), flat),
     }
 }

@@ -29,6 +29,7 @@ impl Verdict {
 }
 
 // What is reported of a file: the verdict, or the first fault.
+#[derive(Clone, Copy)]
 pub struct Report(pub Result<Verdict, Fault>);
 
 impl fmt::Display for Report {

@@ -25,7 +25,5 @@ module _ (file : List ℕ) where
 
   module _ (m : FileLine) (read : line_reading file ≡ Ok m) (cells : Cells) where
     pub told-so : (t : Told) → CheckedAs (the_line m) (length m.components) cells t → VerdictOn file cells t
-    told-so (passed top lows) h =
-        subst (λ (n : ℕ). VerdictOn file cells (passed n lows)) (sym h.1)
-        (subst (λ (w : List ℕ). VerdictOn file cells (passed (size (the_line m) (high (the_line m))) w)) (sym h.2) (sound m read h.0))
+    told-so (passed top lows) h = rw (h.1, h.2) (sound m read h.0)
     told-so (faulty f) h = refused m read h

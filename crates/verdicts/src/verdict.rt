@@ -77,6 +77,7 @@ impl fmt::Display for Verdict {
 }
 
 // What is reported of a file: the verdict, or the first fault.
+#[derive(Clone, Copy)]
 pub struct Report(pub Result<Verdict, Fault>);
 
 impl fmt::Display for Report {
