@@ -74,7 +74,7 @@ pub fn try_line<B: Bank + Drop>(rt: &HostRuntime, name: &str, line: Line<B>) -> 
     match judge(line, &mut cells) {
         Ok(passed) => {
             tell(rt, name, Report(Ok(Verdict::from(&passed))), flat)?;
-            run(rt, name, passed, &mut cells)
+            run(rt, name, passed, cells)
         }
         Err(fault) => tell(rt, name, Report(Err(fault)), flat),
     }
