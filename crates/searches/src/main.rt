@@ -42,7 +42,7 @@ impl Found {
     }
 }
 
-// The work cells of the searches.
+// The work cells of the searches: a flag for each state, and two more slices.
 #[derive(Drop)]
 struct Cells {
     flags: Vec<u32>,
@@ -61,10 +61,15 @@ impl Cells {
 
     // How many of the first `size` states have their flag set.
     fn flagged(&self, size: usize) -> usize {
-        self.flags.iter().take(size).filter(|flag| **flag == 1).count()
+        self.flags
+            .iter()
+            .take(size)
+            .filter(|flag| **flag == 1)
+            .count()
     }
 }
 
+// Reaches the states of the level's walk, those of them that lead to all marked, and the way there from the initial one.
 fn search_walk<B: Bank>(
     chart: &Chart,
     bank: &B,
