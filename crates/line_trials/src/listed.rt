@@ -1,27 +1,13 @@
-// The events that a joint state accepts, and the list of a running line that should have just these.
+// The list of possible events that a running line writes.
 ghost use Rattle.std.specs.Prelude.{◌≡◌, ◌==◌, count_by};
 
 use crate::difference::Difference;
-use crate::joint::Joint;
 use generators::bank::Bank;
 use line::running::Running;
 use model::fault::Fault;
-use std::alloc::{AllocError, Global};
 
 // A byte that is no event.
 const UNTOUCHED: u8 = 238;
-
-// The events below `events` that the state accepts, in their order.
-pub fn accepted<B: Bank>(
-    heap: Global,
-    joint: &Joint,
-    bank: &B,
-    events: u8,
-) -> Result<Vec<u8>, AllocError> {
-    (0..events)
-        .filter(|event| joint.after(bank, *event).is_ok())
-        .collect(heap)
-}
 
 // How many of the bytes are the event.
 fn occurrences(bytes: &[u8], event: u8) -> usize
@@ -35,7 +21,7 @@ fn untouched(bytes: &[u8], from: usize) -> bool {
     bytes.iter().skip(from).all(|byte| *byte == UNTOUCHED)
 }
 
-// Compares the list that the running line writes, and the bytes that it leaves.
+// Compares the list that the running line writes with the events that should be in it, and looks at the bytes that it leaves.
 pub fn compare_possible<B: Bank>(listed: &[u8], running: &Running<B>) -> Result<(), Difference> {
     let mut out = [UNTOUCHED; 70];
     let Ok(count) = running.possible(&mut out) else {

@@ -19,9 +19,10 @@ use line::line::Line;
 use linefile::bank::FileBank;
 use linefile::chart::read_chart;
 use piles::{try_small_lines, try_stores};
+use report::verdict::Report;
 use std::{env, fs};
 use trial::try_line;
-use verdicts::verdict::{Report, Verdict};
+use verdicts::verdict::Verdict;
 
 // The most states of a walk.
 const STATES: usize = 4096;

@@ -34,27 +34,18 @@ const LOADS: &[u8] = b"C\x02ud------";
 // Event 6 puts by, up to three parts, and event 7 takes away.
 const PARTS: &[u8] = b"C\x03------ud";
 
-// The plant and the supervisor of a level, before those of `rest`.
+// A component before those of `rest`.
+fn before<G: Generator, R: Bank>(first: G, rest: R) -> Pile<G, R> {
+    Pile { first, rest }
+}
+
+// The plant and the supervisor of a level, before the components of `rest`.
 fn level<P: Generator, S: Generator, R: Bank>(
     plant: P,
     supervisor: S,
     rest: R,
 ) -> Pile<P, Pile<S, R>> {
-    Pile {
-        first: plant,
-        rest: Pile {
-            first: supervisor,
-            rest,
-        },
-    }
-}
-
-// The interface of a low level, before the components of `rest`.
-fn below<I: Generator, R: Bank>(interface: I, rest: R) -> Pile<I, R> {
-    Pile {
-        first: interface,
-        rest,
-    }
+    before(plant, before(supervisor, rest))
 }
 
 fn layer<G: Generator>(inner: G, events: EventSet) -> Selfloop<G> {
@@ -92,12 +83,12 @@ pub fn try_small_lines(rt: &HostRuntime) -> anyhow::Result<()> {
     let whole = level(
         layer(plant, low),
         layer(one_state, low),
-        below(interface, Empty),
+        before(interface, Empty),
     );
     try_small(rt, "piled-small", chart, whole)?;
     let short = level(layer(plant, low), layer(one_state, low), Empty);
     try_small(rt, "piled-short", chart, short)?;
-    let spare = below(interface, below(interface, Empty));
+    let spare = before(interface, before(interface, Empty));
     let long = level(layer(plant, low), layer(one_state, low), spare);
     try_small(rt, "piled-long", chart, long)
 }
@@ -122,7 +113,7 @@ fn try_stores_beside<R: Bank + Drop>(
     let levels = level(
         layer(round(1, 5, 2), low),
         layer(idle, low),
-        below(interface, rest),
+        before(interface, rest),
     );
     try_stores_over(rt, chart, levels)
 }
@@ -135,7 +126,7 @@ pub fn try_stores(rt: &HostRuntime) -> anyhow::Result<()> {
     let level_two = level(
         layer(round(3, 6, 4), low),
         layer(parts, low),
-        below(interface, Empty),
+        before(interface, Empty),
     );
     try_stores_beside(rt, chart, level_two)
 }

@@ -4,12 +4,12 @@ use crate::cells::Cells;
 use crate::chance::Chance;
 use crate::difference::Difference;
 use crate::joint::Joint;
-use crate::listed::{accepted, compare_possible, refuse_short_slice};
+use crate::listed::{compare_possible, refuse_short_slice};
 use generators::bank::Bank;
 use hisc::guide::Guidance;
 use line::running::Running;
 use model::fault::{Fault, Layer};
-use std::alloc::Global;
+use std::alloc::{AllocError, Global};
 use std::fmt;
 
 // How many trips there are, and how many offers each wanders by at most.
@@ -98,8 +98,11 @@ impl<B: Bank> Tour<B> {
     }
 
     // The events that should be accepted, in their order.
-    fn listed(&self) -> Result<Vec<u8>, Difference> {
-        Ok(accepted(self.heap, &self.joint, self.running.bank(), self.events())?)
+    fn listed(&self) -> Result<Vec<u8>, AllocError> {
+        let bank = self.running.bank();
+        (0..self.events())
+            .filter(|event| self.joint.after(bank, *event).is_ok())
+            .collect(self.heap)
     }
 
     // Whether all components should be marked.

@@ -8,7 +8,8 @@ use line::line::Line;
 use line::passed::Passed;
 use measure::sizes::WalkSizes;
 use model::fault::{Fault, Layer};
-use verdicts::verdict::{Report, Verdict};
+use report::verdict::Report;
+use verdicts::verdict::Verdict;
 
 // The line again, where a check refused its cells, or the fault that comes before these. A check that passed or tried the points with too few cells
 // is told by the fault that it should have found.
@@ -55,7 +56,7 @@ fn cells_needed<B: Bank>(line: &Line<B>) -> usize {
 fn tell(
     rt: &HostRuntime,
     name: &str,
-    report: Report,
+    report: Report<Verdict>,
     flat: Result<Flat, Unbuilt>,
 ) -> anyhow::Result<()> {
     match flat {
@@ -68,6 +69,7 @@ fn tell(
     Ok(())
 }
 
+// The handle and the name are not put into a struct: each line that prints would take it apart again.
 pub fn try_line<B: Bank + Drop>(rt: &HostRuntime, name: &str, line: Line<B>) -> anyhow::Result<()> {
     let mut cells = Cells::new(rt.alloc(), cells_needed(&line))?;
     let flat = Flat::of(rt.alloc(), &line);

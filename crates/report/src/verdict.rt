@@ -28,14 +28,21 @@ impl Verdict {
     }
 }
 
-// What is reported of a file: the verdict, or the first fault.
-#[derive(Clone, Copy)]
-pub struct Report(pub Result<Verdict, Fault>);
+impl fmt::Display for Verdict {
+    fn fmt<W: fmt::Write>(&self, f: &mut fmt::Formatter<W>) -> fmt::Result {
+        let Verdict { levels, events } = *self;
+        write!(f, "read {levels} {events}")
+    }
+}
 
-impl fmt::Display for Report {
+// What is reported of a file: a verdict of any kind, or the first fault.
+#[derive(Clone, Copy)]
+pub struct Report<V>(pub Result<V, Fault>);
+
+impl<V: fmt::Display> fmt::Display for Report<V> {
     fn fmt<W: fmt::Write>(&self, f: &mut fmt::Formatter<W>) -> fmt::Result {
         match &self.0 {
-            Ok(Verdict { levels, events }) => write!(f, "read {levels} {events}"),
+            Ok(verdict) => write!(f, "{verdict}"),
             Err(fault) => write!(f, "fault {fault}"),
         }
     }

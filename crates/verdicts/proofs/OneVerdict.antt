@@ -1,11 +1,10 @@
 -- What is to be told of a file is one thing at most. Assumes nothing.
-use Rattle.std.proofs.Common.{◌≡◌, ℕ, List, length, Some, None, Ok, Err, Option, ap, subst, arith}
+use Rattle.std.proofs.Common.{◌≡◌, ℕ, List, length, Some, None, Ok, Option, subst}
 use Rattle.model.specs.declared.fault.Fault.{Fault}
-use Rattle.hisc.specs.Lines.{high}
-use Rattle.hisc.specs.Sizes.{Cells, size}
+use Rattle.hisc.specs.Sizes.{Cells}
 use Rattle.hisc.specs.Verdict.{Verdict as CheckAnswer}
 use Rattle.hisc.proofs.Verdicts.{one-verdict}
-use Rattle.verdicts.specs.Verdicts.{FileLine, the_line, line_reading, low_sizes, Told, passed, faulty, VerdictOn, unread, refused, sound, OneTold}
+use Rattle.verdicts.specs.Verdicts.{FileLine, the_line, line_reading, Told, VerdictOn, unread, refused, sound, OneTold}
 
 pub same_line : (file : List ℕ) (m n : FileLine) → line_reading file ≡ Ok m → line_reading file ≡ Ok n → m ≡ n
 same_line file m n p q = cc

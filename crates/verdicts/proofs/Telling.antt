@@ -1,16 +1,11 @@
 -- From the readings of a file to what is told of it. Assumes nothing.
-use Rattle.std.proofs.Common.{◌≡◌, ℕ, true, List, length, is_ok, Ok, Err, Result, sym, refl, ap, ◌∙◌, subst}
+use Rattle.std.proofs.Common.{◌≡◌, ℕ, List, length, Ok, Err}
 use Rattle.model.specs.Charts.{EventChart}
 use Rattle.model.specs.Generators.{Gen}
-use Rattle.model.specs.Readings.{and_then}
 use Rattle.model.specs.declared.fault.Fault.{Fault}
 use Rattle.linefile.specs.File.{chart_reading, bank_reading}
-use Rattle.hisc.specs.Law.{Law}
-use Rattle.hisc.specs.Lines.{high}
-use Rattle.hisc.specs.Sizes.{Cells, size}
-use Rattle.verdicts.specs.declared.verdict.Verdict.{Verdict}
-use Rattle.verdicts.specs.Verdicts.{FileLine, the_line, line_reading, Told, passed, faulty, told_in, CheckedAs, VerdictOn, refused, sound, PassedKeepsLaw}
-use Rattle.verdicts.proofs.OneVerdict.{same_line}
+use Rattle.hisc.specs.Sizes.{Cells}
+use Rattle.verdicts.specs.Verdicts.{FileLine, the_line, line_reading, Told, passed, faulty, CheckedAs, VerdictOn, refused, sound}
 
 module _ (file : List ℕ) where
   pub chart-unread : (f : Fault) → chart_reading file ≡ Err f → line_reading file ≡ Err f

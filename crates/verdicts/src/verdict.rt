@@ -75,16 +75,3 @@ impl fmt::Display for Verdict {
         Ok(())
     }
 }
-
-// What is reported of a file: the verdict, or the first fault.
-#[derive(Clone, Copy)]
-pub struct Report(pub Result<Verdict, Fault>);
-
-impl fmt::Display for Report {
-    fn fmt<W: fmt::Write>(&self, f: &mut fmt::Formatter<W>) -> fmt::Result {
-        match &self.0 {
-            Ok(verdict) => write!(f, "{verdict}"),
-            Err(fault) => write!(f, "fault {fault}"),
-        }
-    }
-}

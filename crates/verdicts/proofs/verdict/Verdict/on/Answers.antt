@@ -1,9 +1,5 @@
-use Rattle.std.proofs.Common.{length, sym}
+use Rattle.std.proofs.Common.{sym}
 use Rattle.std.proofs.lemmas.Result.{err_from_is_err_and}
-use Rattle.charts.specs.Meanings.{chart_of}
-use Rattle.linefile.specs.Bank.{list_from}
-use Rattle.linefile.specs.Layout.{texts}
-use Rattle.points.specs.Examined.{cells_in}
 use Rattle.verdicts.specs.Verdicts.{unread, told_in}
 use Rattle.verdicts.proofs.Telling.{chart-unread, bank-unread, line_read, told-so}
 use Rattle.verdicts.proofs.verdict.Verdict.on.Goals as goal
