@@ -1,7 +1,7 @@
 -- A generator that goes round three states by three events. Assumes nothing.
 use Rattle.std.specs.Prelude.{◌≡◌, ℕ, ◌<◌, ◌≤◌, Bool, true, false, cond, ◌&&◌, ◌||◌, ◌==◌, ◌≢◌, nat_lt, refl}
 use Rattle.std.proofs.Common.{arith}
-use Rattle.std.proofs.lemmas.Bool.{ltb-true, eqb-true, and_parts}
+use Rattle.std.proofs.lemmas.Bool.{ltb-true, eqb-true, ne_eqb, and_parts}
 use Rattle.model.specs.Generators.{Gen, WellFormed}
 use Rattle.model.specs.declared.next.Next.{Next}
 use Rattle.model.specs.declared.next.Next.TheVariants.{Foreign, Forbidden, To}
@@ -28,16 +28,16 @@ cycle a b c = record {
 
 -- no move of a cycle is foreign, and each leads from a state to a state
 moved : (x y z : Bool) → cond x (To 1) (cond y (To 2) (cond z (To 0) Forbidden)) ≢ Foreign
-moved true y z h = let k : ◌≡◌ {A = ℕ} 0 1 = cc in omega arith
-moved false true z h = let k : ◌≡◌ {A = ℕ} 0 1 = cc in omega arith
-moved false false true h = let k : ◌≡◌ {A = ℕ} 0 1 = cc in omega arith
-moved false false false h = let k : ◌≡◌ {A = ℕ} 0 1 = cc in omega arith
+moved true y z h = cc
+moved false true z h = cc
+moved false false true h = cc
+moved false false false h = cc
 
 target_below : (x y z : Bool) (t : ℕ) → cond x (To 1) (cond y (To 2) (cond z (To 0) Forbidden)) ≡ To t → t < 3
 target_below true y z t h = let k : ◌≡◌ {A = ℕ} 1 t = cc in omega arith
 target_below false true z t h = let k : ◌≡◌ {A = ℕ} 2 t = cc in omega arith
 target_below false false true t h = let k : ◌≡◌ {A = ℕ} 0 t = cc in omega arith
-target_below false false false t h = let k : ◌≡◌ {A = ℕ} 0 1 = cc in absurd (omega arith)
+target_below false false false t h = absurd cc
 
 known_by : (k : Bool) (x : Next) → (x ≢ Foreign) → cond k x Foreign ≡ Foreign → k ≡ false
 known_by true x off h = absurd (off h)
@@ -45,16 +45,13 @@ known_by false x off h = refl
 
 inside-by : (k : Bool) (x : Next) (t : ℕ) → (x ≡ To t → t < 3) → cond k x Foreign ≡ To t → t < 3
 inside-by true x t below h = below h
-inside-by false x t below h = let z : ◌≡◌ {A = ℕ} 0 1 = cc in absurd (omega arith)
-
-eqb-off : (s n : ℕ) → n < s → (s == n) ≡ false
-eqb-off s n h = elim (s == n) as (λ v. (s == n) ≡ v → v ≡ false) [ true ↦ (λ e. absurd (omega (arith, eqb-true s n e))) | false ↦ (λ e. refl) ] refl
+inside-by false x t below h = absurd cc
 
 still : (a b c s e : ℕ) → 3 ≤ s → cycle_move a b c s e ≡ Forbidden
 still a b c s e h =
-    let x = eqb-off s 0 (omega arith) in
-    let y = eqb-off s 1 (omega arith) in
-    let z = eqb-off s 2 (omega arith) in
+    let x = ne_eqb s 0 (λ k. omega arith) in
+    let y = ne_eqb s 1 (λ k. omega arith) in
+    let z = ne_eqb s 2 (λ k. omega arith) in
     rw (x, y, z)
 
 pub cycle-formed : (a b c : ℕ) → WellFormed (cycle a b c)

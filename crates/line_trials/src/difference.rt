@@ -1,5 +1,5 @@
 // Where a running line and the joint line part.
-use std::alloc::AllocFailed;
+use std::alloc::{AllocError, AllocFailed};
 use std::fmt;
 
 #[derive(Clone, Copy)]
@@ -36,6 +36,12 @@ impl fmt::Display for Difference {
 
 impl<T: Drop> From<AllocFailed<T>> for Difference {
     fn from(_refused: AllocFailed<T>) -> Difference {
+        Difference::Memory
+    }
+}
+
+impl From<AllocError> for Difference {
+    fn from(_refused: AllocError) -> Difference {
         Difference::Memory
     }
 }

@@ -15,27 +15,40 @@ mod trial;
 mod trips;
 
 use cells::Cells;
+use line::cells::Cells as Lent;
 use linefile::bank::FileBank;
 use linefile::chart::read_chart;
 use piles::{try_small_lines, try_stores};
+use report::verdict::Report;
 use std::{env, fs};
 use trial::try_line;
 use verdicts::verdict::Verdict;
+use walks::line::Line;
 
 // The most states of a walk.
 const STATES: usize = 4096;
 
 // What linecheck writes of the file, and the trial of the line that it holds.
 fn try_file(rt: &HostRuntime, name: &str, file: &[u8], cells: &mut Cells) -> anyhow::Result<()> {
-    let verdict = Verdict::on(file, &mut cells.first, &mut cells.second, &mut cells.third);
-    println!(rt; "{name}: {verdict}")?;
-    let Ok(chart) = read_chart(file) else {
-        return Ok(());
-    };
-    let Ok(bank) = FileBank::read(file) else {
-        return Ok(());
-    };
-    try_line(rt, name, chart, bank)
+    let Cells {
+        first,
+        second,
+        third,
+        ..
+    } = cells;
+    let report = Report(Verdict::on(
+        file,
+        &mut Lent {
+            first,
+            second,
+            third,
+        },
+    ));
+    println!(rt; "{name}: {report}")?;
+    match (read_chart(file), FileBank::read(file)) {
+        (Ok(chart), Ok(bank)) => try_line(rt, name, Line { chart, bank }),
+        _ => Ok(()),
+    }
 }
 
 fn main(rt: HostRuntime) -> anyhow::Result<()> {

@@ -1,7 +1,7 @@
 // Lines whose components are piled in code.
 use crate::cycle::Cycle;
 use crate::trial::try_line;
-use anyhow::anyhow;
+use anyhow::Context;
 use charts::chart::Chart;
 use generators::bank::Bank;
 use generators::generator::Generator;
@@ -9,6 +9,7 @@ use generators::pile::{Empty, Pile};
 use generators::selfloop::Selfloop;
 use makes::make::Make;
 use model::set::EventSet;
+use walks::line::Line;
 
 // One low level: event 0 is a high event, 1 a request, 2 an answer, 3 a low event.
 const SMALL: &[u8] = b"\x01\x01\x04H\x00cR\x01cA\x01uL\x01u";
@@ -33,38 +34,18 @@ const LOADS: &[u8] = b"C\x02ud------";
 // Event 6 puts by, up to three parts, and event 7 takes away.
 const PARTS: &[u8] = b"C\x03------ud";
 
-// The components of a level, before those of `rest`.
-fn level<P: Generator, S: Generator, I: Generator, R: Bank>(
-    plant: P,
-    supervisor: S,
-    interface: I,
-    rest: R,
-) -> Pile<P, Pile<S, Pile<I, R>>> {
-    Pile {
-        first: plant,
-        rest: Pile {
-            first: supervisor,
-            rest: Pile {
-                first: interface,
-                rest,
-            },
-        },
-    }
+// A component before those of `rest`.
+fn before<G: Generator, R: Bank>(first: G, rest: R) -> Pile<G, R> {
+    Pile { first, rest }
 }
 
-// The components of the high level, before those of the low levels.
-fn high_level<P: Generator, S: Generator, R: Bank>(
+// The plant and the supervisor of a level, before the components of `rest`.
+fn level<P: Generator, S: Generator, R: Bank>(
     plant: P,
     supervisor: S,
     rest: R,
 ) -> Pile<P, Pile<S, R>> {
-    Pile {
-        first: plant,
-        rest: Pile {
-            first: supervisor,
-            rest,
-        },
-    }
+    before(plant, before(supervisor, rest))
 }
 
 fn layer<G: Generator>(inner: G, events: EventSet) -> Selfloop<G> {
@@ -86,47 +67,38 @@ fn try_small<R: Bank + Drop>(
     chart: Chart,
     rest: R,
 ) -> anyhow::Result<()> {
-    let Ok(one_state) = Make::read(ONE_STATE, 4) else {
-        return Err(anyhow!("no table"));
-    };
+    let one_state = Make::read(ONE_STATE, 4).ok().context("no table")?;
     let high = chart.high_alphabet();
-    let bank = high_level(layer(round(0, 1, 2), high), layer(one_state, high), rest);
-    try_line(rt, name, chart, bank)
+    let bank = level(layer(round(0, 1, 2), high), layer(one_state, high), rest);
+    try_line(rt, name, Line { chart, bank })
 }
 
 // The small line, and the same with a component too few and one too many.
 pub fn try_small_lines(rt: &HostRuntime) -> anyhow::Result<()> {
-    let Ok(chart) = Chart::read(SMALL) else {
-        return Err(anyhow!("no chart"));
-    };
-    let Ok(one_state) = Make::read(ONE_STATE, 4) else {
-        return Err(anyhow!("no table"));
-    };
-    let Ok(interface) = Make::read(LEVEL_ONE, 4) else {
-        return Err(anyhow!("no stock"));
-    };
+    let chart = Chart::read(SMALL).ok().context("no chart")?;
+    let one_state = Make::read(ONE_STATE, 4).ok().context("no table")?;
+    let interface = Make::read(LEVEL_ONE, 4).ok().context("no stock")?;
     let low = chart.level_alphabet(1);
     let plant = round(1, 3, 2);
-    let whole = level(layer(plant, low), layer(one_state, low), interface, Empty);
+    let whole = level(
+        layer(plant, low),
+        layer(one_state, low),
+        before(interface, Empty),
+    );
     try_small(rt, "piled-small", chart, whole)?;
-    let short = high_level(layer(plant, low), layer(one_state, low), Empty);
+    let short = level(layer(plant, low), layer(one_state, low), Empty);
     try_small(rt, "piled-short", chart, short)?;
-    let spare = Pile {
-        first: interface,
-        rest: Empty,
-    };
-    let long = level(layer(plant, low), layer(one_state, low), interface, spare);
+    let spare = before(interface, before(interface, Empty));
+    let long = level(layer(plant, low), layer(one_state, low), spare);
     try_small(rt, "piled-long", chart, long)
 }
 
 // A line of two levels: loads go through level 1 to level 2, which puts parts by. The high level over any low levels.
 fn try_stores_over<R: Bank + Drop>(rt: &HostRuntime, chart: Chart, rest: R) -> anyhow::Result<()> {
-    let Ok(loads) = Make::read(LOADS, 8) else {
-        return Err(anyhow!("no counter"));
-    };
+    let loads = Make::read(LOADS, 8).ok().context("no counter")?;
     let high = chart.high_alphabet();
-    let bank = high_level(layer(loads, high), layer(round(1, 2, 3), high), rest);
-    try_line(rt, "piled-stores", chart, bank)
+    let bank = level(layer(loads, high), layer(round(1, 2, 3), high), rest);
+    try_line(rt, "piled-stores", Line { chart, bank })
 }
 
 // Level 1 over any level 2.
@@ -135,38 +107,26 @@ fn try_stores_beside<R: Bank + Drop>(
     chart: Chart,
     rest: R,
 ) -> anyhow::Result<()> {
-    let Ok(idle) = Make::read(IDLE, 8) else {
-        return Err(anyhow!("no stock"));
-    };
-    let Ok(interface) = Make::read(LEVEL_ONE, 8) else {
-        return Err(anyhow!("no stock"));
-    };
+    let idle = Make::read(IDLE, 8).ok().context("no stock")?;
+    let interface = Make::read(LEVEL_ONE, 8).ok().context("no stock")?;
     let low = chart.level_alphabet(1);
     let levels = level(
         layer(round(1, 5, 2), low),
         layer(idle, low),
-        interface,
-        rest,
+        before(interface, rest),
     );
     try_stores_over(rt, chart, levels)
 }
 
 pub fn try_stores(rt: &HostRuntime) -> anyhow::Result<()> {
-    let Ok(chart) = Chart::read(STORES) else {
-        return Err(anyhow!("no chart"));
-    };
-    let Ok(parts) = Make::read(PARTS, 8) else {
-        return Err(anyhow!("no counter"));
-    };
-    let Ok(interface) = Make::read(LEVEL_TWO, 8) else {
-        return Err(anyhow!("no stock"));
-    };
+    let chart = Chart::read(STORES).ok().context("no chart")?;
+    let parts = Make::read(PARTS, 8).ok().context("no counter")?;
+    let interface = Make::read(LEVEL_TWO, 8).ok().context("no stock")?;
     let low = chart.level_alphabet(2);
     let level_two = level(
         layer(round(3, 6, 4), low),
         layer(parts, low),
-        interface,
-        Empty,
+        before(interface, Empty),
     );
     try_stores_beside(rt, chart, level_two)
 }

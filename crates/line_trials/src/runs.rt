@@ -4,12 +4,13 @@ use crate::cells::Cells;
 use crate::chance::Chance;
 use crate::difference::Difference;
 use crate::joint::Joint;
-use crate::listed::{Listed, refuse_short_slice};
+use crate::listed::{compare_possible, refuse_short_slice};
 use generators::bank::Bank;
 use hisc::guide::Guidance;
 use line::cells::Cells as Lent;
 use line::running::Running;
 use model::fault::{Fault, Layer};
+use std::alloc::{AllocError, Global};
 use std::fmt;
 
 // How many trips there are, and how many offers each wanders by at most.
@@ -43,18 +44,42 @@ impl fmt::Display for Tally {
     }
 }
 
-// The joint state in which the running line should be, and what is kept from trip to trip.
-#[derive(Clone, Copy)]
-pub struct Tour {
+// The events that led home.
+#[derive(Drop)]
+pub struct Way {
+    events: Vec<u8>,
+}
+
+impl fmt::Display for Way {
+    fn fmt<W: fmt::Write>(&self, f: &mut fmt::Formatter<W>) -> fmt::Result {
+        for event in self.events.iter() {
+            write!(f, " {event}")?;
+        }
+        Ok(())
+    }
+}
+
+// A running line with its cells, the joint state in which it should be, and what is kept from trip to trip.
+#[derive(Drop)]
+pub struct Tour<B: Bank> {
+    pub running: Running<B>,
+    cells: Cells,
+    heap: Global,
     joint: Joint,
     chance: Chance,
     pub tally: Tally,
+    // that of the last trip, where it went by single offers
+    pub way: Way,
 }
 
-impl Tour {
-    pub fn new<B: Bank>(bank: &B, bound: u64) -> Tour {
+impl<B: Bank> Tour<B> {
+    pub fn new(heap: Global, running: Running<B>, cells: Cells, bound: u64) -> Tour<B> {
+        let joint = Joint::initial(running.bank());
         Tour {
-            joint: Joint::initial(bank),
+            running,
+            cells,
+            heap,
+            joint,
             chance: Chance::START,
             tally: Tally {
                 accepted: 0,
@@ -63,24 +88,56 @@ impl Tour {
                 bound,
                 ways: 0,
             },
+            way: Way {
+                events: Vec::new(heap),
+            },
         }
+    }
+
+    fn events(&self) -> u8 {
+        self.running.chart().events()
+    }
+
+    // The events that should be accepted, in their order.
+    fn listed(&self) -> Result<Vec<u8>, AllocError> {
+        let bank = self.running.bank();
+        (0..self.events())
+            .filter(|event| self.joint.after(bank, *event).is_ok())
+            .collect(self.heap)
+    }
+
+    // Whether all components should be marked.
+    fn rests(&self) -> bool {
+        self.joint.rests(self.running.bank())
     }
 
     // An event to offer: mostly one that is accepted, else any number, also one past the chart's.
-    fn pick(&mut self, listed: &Listed, events: u8) -> u8 {
+    fn pick(&mut self, listed: &[u8]) -> u8 {
         let any = self.chance.below(4) == 0;
-        if any || listed.len() == 0 {
+        if any || listed.is_empty() {
+            let events = self.events();
             self.chance.below(events.saturating_add(3))
         } else {
-            let place = self.chance.below(listed.len());
-            listed.event(place)
+            let many = u8::try_from(listed.len()).unwrap_or(u8::MAX);
+            let place = self.chance.below(many);
+            listed.get(usize::from(place)).copied().unwrap_or(0)
         }
     }
 
+    // What the joint state says of an offer.
+    fn answer(&self, event: u8) -> Result<Joint, Fault> {
+        if event >= self.events() {
+            return Err(Fault::EventNumber { event });
+        }
+        self.joint
+            .after(self.running.bank(), event)
+            .map_err(|component| Fault::Refused { component, event })
+    }
+
     // Makes the offer, and compares the reply and the states. Tells whether it was accepted.
-    fn offer<B: Bank>(&mut self, running: &mut Running<B>, event: u8) -> Result<bool, Difference> {
-        let expected = answer(running, &self.joint, event);
-        match (running.offer(event), expected) {
+    fn offer(&mut self, event: u8) -> Result<bool, Difference> {
+        let expected = self.answer(event);
+        match (self.running.offer(event), expected) {
             (Ok(()), Ok(next)) => {
                 self.joint = next;
                 self.tally.accepted = self.tally.accepted.saturating_add(1);
@@ -90,12 +147,12 @@ impl Tour {
             }
             _ => return Err(Difference::Offer { event }),
         }
-        self.look(running)?;
+        self.look()?;
         Ok(expected.is_ok())
     }
 
-    fn look<B: Bank>(&self, running: &Running<B>) -> Result<(), Difference> {
-        if running.look().states == self.joint.states {
+    fn look(&self) -> Result<(), Difference> {
+        if self.running.look().states == self.joint.states {
             Ok(())
         } else {
             Err(Difference::Look)
@@ -103,40 +160,48 @@ impl Tour {
     }
 
     // Wanders by so many offers.
-    fn wander<B: Bank>(&mut self, running: &mut Running<B>) -> Result<(), Difference> {
-        let events = running.chart().events();
+    fn wander(&mut self) -> Result<(), Difference> {
         for _ in 0..self.chance.below(LONGEST) {
-            let listed = Listed::at(&self.joint, running.bank(), events);
-            let event = self.pick(&listed, events);
-            self.offer(running, event)?;
+            let listed = self.listed()?;
+            let event = self.pick(&listed);
+            self.offer(event)?;
         }
         Ok(())
     }
 
     // Offers an event that the guide named; it must be accepted.
-    fn take<B: Bank>(&mut self, running: &mut Running<B>, event: u8) -> Result<(), Difference> {
+    fn take(&mut self, event: u8) -> Result<(), Difference> {
         let number = u32::from(event) + 1;
         self.tally.ways = self.tally.ways.wrapping_mul(31).wrapping_add(number);
-        if self.offer(running, event)? {
+        if self.offer(event)? {
             Ok(())
         } else {
             Err(Difference::Guide)
         }
     }
 
+    fn guide(&mut self) -> Result<Guidance, Fault> {
+        let Cells {
+            first,
+            second,
+            third,
+            ..
+        } = &mut self.cells;
+        self.running.guide(&mut Lent {
+            first,
+            second,
+            third,
+        })
+    }
+
     // Asks the guide and offers what it names, until it says home, which it must say just where all components are marked.
-    fn follow<B: Bank>(
-        &mut self,
-        running: &mut Running<B>,
-        cells: &mut Cells,
-        way: &mut Vec<u8>,
-    ) -> Result<(), Difference> {
+    fn follow(&mut self) -> Result<(), Difference> {
         for _ in 0..=self.tally.bound {
-            let rests = self.joint.rests(running.bank());
-            match ask(running, cells) {
+            let rests = self.rests();
+            match self.guide() {
                 Ok(Guidance::Event(event)) if !rests => {
-                    way.push(event)?;
-                    self.take(running, event)?;
+                    self.way.events.push(event)?;
+                    self.take(event)?;
                 }
                 Ok(Guidance::Home) if rests => return Ok(()),
                 _ => return Err(Difference::Guide),
@@ -146,39 +211,25 @@ impl Tour {
     }
 
     // The same by one call.
-    fn hurry<B: Bank>(
-        &mut self,
-        running: &mut Running<B>,
-        cells: &mut Cells,
-    ) -> Result<(), Difference> {
-        let Cells { first, second, third, .. } = cells;
-        let Ok(offers) = running.go_home(&mut Lent { first, second, third }) else {
-            return Err(Difference::Guide);
-        };
-        let row = running.look();
-        let states = row.states;
+    fn hurry(&mut self) -> Result<(), Difference> {
+        let offers = go_home(&mut self.running, &mut self.cells)?;
+        let states = self.running.look().states;
         self.joint = Joint { states };
         self.tally.accepted = self.tally.accepted.saturating_add(offers);
         Ok(())
     }
 
     // Goes home, by one call on every fourth trip, and looks whether all components are marked then.
-    fn home<B: Bank>(
-        &mut self,
-        running: &mut Running<B>,
-        cells: &mut Cells,
-        way: &mut Vec<u8>,
-        trip: u8,
-    ) -> Result<(), Difference> {
+    fn home(&mut self, trip: u8) -> Result<(), Difference> {
         let before = self.tally.accepted;
         if trip % 4 == 3 {
-            self.hurry(running, cells)?;
+            self.hurry()?;
         } else {
-            self.follow(running, cells, way)?;
+            self.follow()?;
         }
         let offers = self.tally.accepted.saturating_sub(before);
         self.tally.longest = self.tally.longest.max(offers);
-        if offers <= self.tally.bound && self.joint.rests(running.bank()) {
+        if offers <= self.tally.bound && self.rests() {
             Ok(())
         } else {
             Err(Difference::Guide)
@@ -186,71 +237,73 @@ impl Tour {
     }
 
     // Begins again with all initial states.
-    fn restart<B: Bank>(&mut self, running: &mut Running<B>) -> Result<(), Difference> {
-        running.restart();
-        self.joint = Joint::initial(running.bank());
-        self.look(running)
+    fn restart(&mut self) -> Result<(), Difference> {
+        self.running.restart();
+        self.joint = Joint::initial(self.running.bank());
+        self.look()
+    }
+
+    // The guide refuses a slice that is a cell short, whichever of the three it is.
+    fn refuse_short_cells(&mut self, trip: u8) -> Result<(), Difference> {
+        let Cells {
+            first,
+            second,
+            third,
+            short,
+        } = &mut self.cells;
+        let reply = match trip % 3 {
+            0 => self.running.guide(&mut Lent {
+                first: short,
+                second,
+                third,
+            }),
+            1 => self.running.guide(&mut Lent {
+                first,
+                second: short,
+                third,
+            }),
+            _ => self.running.guide(&mut Lent {
+                first,
+                second,
+                third: short,
+            }),
+        };
+        match reply {
+            Err(Fault::WorkCells { layer: Layer::Run }) => Ok(()),
+            _ => Err(Difference::ShortCells),
+        }
     }
 
     // Wanders, on every third trip begins again and wanders once more, asks what is refused or changes nothing, and goes home.
-    pub fn trip<B: Bank>(
-        &mut self,
-        running: &mut Running<B>,
-        cells: &mut Cells,
-        way: &mut Vec<u8>,
-        trip: u8,
-    ) -> Result<(), Difference> {
-        self.wander(running)?;
+    pub fn trip(&mut self, trip: u8) -> Result<(), Difference> {
+        self.way.events.clear();
+        self.wander()?;
         if trip % 3 == 2 {
-            self.restart(running)?;
-            self.wander(running)?;
+            self.restart()?;
+            self.wander()?;
         }
-        self.offer(running, 255)?;
-        let events = running.chart().events();
-        Listed::at(&self.joint, running.bank(), events).compare(running)?;
-        refuse_short_slice(running)?;
-        refuse_short_cells(running, cells, trip)?;
-        self.look(running)?;
-        self.home(running, cells, way, trip)
+        self.offer(255)?;
+        compare_possible(&self.listed()?, &self.running)?;
+        refuse_short_slice(&self.running)?;
+        self.refuse_short_cells(trip)?;
+        self.look()?;
+        self.home(trip)
     }
 }
 
-// What the guide answers with cells enough.
-fn ask<B: Bank>(running: &Running<B>, cells: &mut Cells) -> Result<Guidance, Fault> {
-    let Cells { first, second, third, .. } = cells;
-    running.guide(&mut Lent { first, second, third })
-}
-
-// The guide refuses a slice that is a cell short, whichever of the three it is.
-fn refuse_short_cells<B: Bank>(
-    running: &Running<B>,
-    cells: &mut Cells,
-    trip: u8,
-) -> Result<(), Difference> {
+// Goes home by one call. Tells how many offers that took.
+fn go_home<B: Bank>(running: &mut Running<B>, cells: &mut Cells) -> Result<u64, Difference> {
     let Cells {
         first,
         second,
         third,
-        short,
+        ..
     } = cells;
-    let reply = match trip % 3 {
-        0 => running.guide(&mut Lent { first: short, second, third }),
-        1 => running.guide(&mut Lent { first, second: short, third }),
-        _ => running.guide(&mut Lent { first, second, third: short }),
-    };
-    match reply {
-        Err(Fault::WorkCells { layer: Layer::Run }) => Ok(()),
-        _ => Err(Difference::ShortCells),
-    }
-}
-
-// What the joint state says of an offer.
-fn answer<B: Bank>(running: &Running<B>, joint: &Joint, event: u8) -> Result<Joint, Fault> {
-    if event >= running.chart().events() {
-        return Err(Fault::EventNumber { event });
-    }
-    match joint.after(running.bank(), event) {
-        Ok(next) => Ok(next),
-        Err(component) => Err(Fault::Refused { component, event }),
-    }
+    running
+        .go_home(&mut Lent {
+            first,
+            second,
+            third,
+        })
+        .map_err(|_| Difference::Guide)
 }

@@ -1,16 +1,16 @@
 // The trial of a line over any bank.
 use crate::cells::Cells;
-use crate::flat::Flat;
+use crate::flat::{Flat, LIMIT, Unbuilt};
 use crate::trips::run;
-use charts::chart::Chart;
 use generators::bank::Bank;
 use line::cells::Cells as Lent;
 use line::check::check;
-use line::line::Line;
 use line::passed::Passed;
 use measure::sizes::WalkSizes;
 use model::fault::{Fault, Layer};
+use report::verdict::Report;
 use verdicts::verdict::Verdict;
+use walks::line::Line;
 
 // The line again, where a check refused its cells, or the fault that comes before these. A check that passed or tried the points with too few cells
 // is told by the fault that it should have found.
@@ -21,14 +21,16 @@ fn handed_back<B: Bank + Drop>(
         layer: Layer::Check,
     };
     match checked {
-        Ok(_) => Err(cells),
-        Err((fault, line)) => match fault {
-            Fault::WorkCells {
-                layer: Layer::Check,
-            } => Ok(line),
-            Fault::Components | Fault::WalkSize { .. } => Err(fault),
-            _ => Err(cells),
-        },
+        Err(
+            (
+                Fault::WorkCells {
+                    layer: Layer::Check,
+                },
+                line,
+            ),
+        ) => Ok(line),
+        Err((fault @ (Fault::Components | Fault::WalkSize { .. }), _)) => Err(fault),
+        _ => Err(cells),
     }
 }
 
@@ -40,48 +42,63 @@ fn judge<B: Bank + Drop>(line: Line<B>, cells: &mut Cells) -> Result<Passed<B>, 
         third,
         short,
     } = cells;
-    let mut lent = Lent { first: short, second, third };
+    let mut lent = Lent {
+        first: short,
+        second,
+        third,
+    };
     let line = handed_back(check(line, &mut lent))?;
-    let mut lent = Lent { first, second: short, third };
+    let mut lent = Lent {
+        first,
+        second: short,
+        third,
+    };
     let line = handed_back(check(line, &mut lent))?;
-    let mut lent = Lent { first, second, third: short };
+    let mut lent = Lent {
+        first,
+        second,
+        third: short,
+    };
     let line = handed_back(check(line, &mut lent))?;
-    let mut lent = Lent { first, second, third };
-    match check(line, &mut lent) {
-        Ok(passed) => Ok(passed),
-        Err((fault, _)) => Err(fault),
-    }
+    let mut lent = Lent {
+        first,
+        second,
+        third,
+    };
+    check(line, &mut lent).map_err(|(fault, _)| fault)
 }
 
 // The size of the largest walk; 1 if the line has too large a walk, or too few or too many components.
-fn cells_needed<B: Bank>(chart: &Chart, bank: &B) -> usize {
-    match WalkSizes::of(chart, bank) {
-        Ok(sizes) => sizes.largest() as usize,
-        Err(_) => 1,
-    }
+fn cells_needed<B: Bank>(line: &Line<B>) -> usize {
+    WalkSizes::of(line).map_or(1, |sizes| sizes.largest() as usize)
 }
 
-pub fn try_line<B: Bank + Drop>(
+// Writes the verdict that just enough cells give, and what the joint line does.
+fn tell(
     rt: &HostRuntime,
     name: &str,
-    chart: Chart,
-    bank: B,
+    report: Report<Verdict>,
+    flat: Result<Flat, Unbuilt>,
 ) -> anyhow::Result<()> {
-    let mut cells = Cells::new(rt.alloc(), cells_needed(&chart, &bank))?;
-    let flat = Flat::of(rt.alloc(), &chart, &bank)?;
-    match judge(Line { chart, bank }, &mut cells) {
+    match flat {
+        Ok(flat) => println!(rt; "{name}: with just enough cells {report}; {flat}")?,
+        Err(Unbuilt::TooLarge) => {
+            println!(rt; "{name}: with just enough cells {report}; flat above {LIMIT} states")?
+        }
+        Err(Unbuilt::Memory(error)) => return Err(error.into()),
+    }
+    Ok(())
+}
+
+// The handle and the name are not put into a struct: each line that prints would take it apart again.
+pub fn try_line<B: Bank + Drop>(rt: &HostRuntime, name: &str, line: Line<B>) -> anyhow::Result<()> {
+    let mut cells = Cells::new(rt.alloc(), cells_needed(&line))?;
+    let flat = Flat::of(rt.alloc(), &line);
+    match judge(line, &mut cells) {
         Ok(passed) => {
-            let verdict = Verdict::Passed {
-                levels: passed.chart().levels(),
-                sizes: passed.sizes(),
-            };
-            println!(rt; "{name}: with just enough cells {verdict}; {flat}")?;
-            run(rt, name, passed, &mut cells)
+            tell(rt, name, Report(Ok(Verdict::from(&passed))), flat)?;
+            run(rt, name, passed, cells)
         }
-        Err(fault) => {
-            let verdict = Verdict::Faulty(fault);
-            println!(rt; "{name}: with just enough cells {verdict}; {flat}")?;
-            Ok(())
-        }
+        Err(fault) => tell(rt, name, Report(Err(fault)), flat),
     }
 }

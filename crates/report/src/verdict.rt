@@ -1,48 +1,49 @@
 // The verdict on a line file, as linecheck writes it.
 ghost use Rattle.std.specs.Prelude.{◌≡◌};
-ghost use Rattle.report.specs.Verdicts.{reading, verdict_on};
+ghost use Rattle.report.specs.Verdicts.{verdict_on};
 
 use linefile::bank::FileBank;
 use linefile::chart::read_chart;
 use model::fault::Fault;
 use std::fmt;
 
+// The file can be read: it has so many low levels and events.
 #[derive(Clone, Copy)]
-pub enum Verdict {
-    // the file can be read: it has so many low levels and events
-    Read { levels: u8, events: u8 },
-    // the first fault
-    Faulty(Fault),
-}
-
-// Reads the chart and every component.
-fn read(file: &[u8]) -> Result<Verdict, Fault>
-    ensures { result ≡ reading file.now }
-{
-    let chart = read_chart(file)?;
-    FileBank::read(file)?;
-    Ok(Verdict::Read {
-        levels: chart.levels(),
-        events: chart.events(),
-    })
+pub struct Verdict {
+    pub levels: u8,
+    pub events: u8,
 }
 
 impl Verdict {
-    pub fn on(file: &[u8]) -> Verdict
+    // Reads the chart and every component.
+    pub fn on(file: &[u8]) -> Result<Verdict, Fault>
         ensures { result ≡ verdict_on file.now }
     {
-        match read(file) {
-            Ok(verdict) => verdict,
-            Err(fault) => Verdict::Faulty(fault),
-        }
+        let chart = read_chart(file)?;
+        FileBank::read(file)?;
+        Ok(Verdict {
+            levels: chart.levels(),
+            events: chart.events(),
+        })
     }
 }
 
 impl fmt::Display for Verdict {
     fn fmt<W: fmt::Write>(&self, f: &mut fmt::Formatter<W>) -> fmt::Result {
-        match self {
-            Verdict::Read { levels, events } => write!(f, "read {levels} {events}"),
-            Verdict::Faulty(fault) => write!(f, "fault {fault}"),
+        let Verdict { levels, events } = *self;
+        write!(f, "read {levels} {events}")
+    }
+}
+
+// What is reported of a file: a verdict of any kind, or the first fault.
+#[derive(Clone, Copy)]
+pub struct Report<V>(pub Result<V, Fault>);
+
+impl<V: fmt::Display> fmt::Display for Report<V> {
+    fn fmt<W: fmt::Write>(&self, f: &mut fmt::Formatter<W>) -> fmt::Result {
+        match &self.0 {
+            Ok(verdict) => write!(f, "{verdict}"),
+            Err(fault) => write!(f, "fault {fault}"),
         }
     }
 }

@@ -1,12 +1,13 @@
 // The searches of each walk of the lines that are named, with the time that they take. Without names it writes nothing.
 #![tactic(auto)]
 
-use anyhow::anyhow;
+use anyhow::Context;
 use charts::chart::Chart;
 use generators::bank::Bank;
 use linefile::bank::FileBank;
 use linefile::chart::read_chart;
 use search::answers::Way;
+use std::alloc::{AllocError, Global};
 use std::time::Instant;
 use std::{env, fs};
 use walks::aim::Aim;
@@ -32,47 +33,65 @@ struct Found {
 
 impl Found {
     fn with(self, other: Found) -> Found {
-        let steps = match (self.steps, other.steps) {
-            (Some(a), Some(b)) => Some(a.saturating_add(b)),
-            _ => None,
-        };
+        let steps = self.steps.zip(other.steps);
         Found {
             reached: self.reached.saturating_add(other.reached),
             leading: self.leading.saturating_add(other.leading),
-            steps,
+            steps: steps.map(|(a, b)| a.saturating_add(b)),
         }
     }
 }
 
-// How many of the first `size` cells have the value.
-fn count(cells: &[u32], size: usize, value: u32) -> usize {
-    let mut n: usize = 0;
-    for cell in cells.iter().take(size) {
-        if *cell == value {
-            n = n.saturating_add(1);
-        }
-    }
-    n
+// The work cells of the searches: a flag for each state, and two more slices.
+#[derive(Drop)]
+struct Cells {
+    flags: Vec<u32>,
+    stack: Vec<u32>,
+    places: Vec<u32>,
 }
 
+impl Cells {
+    fn new(heap: Global) -> Result<Cells, AllocError> {
+        Ok(Cells {
+            flags: vec![in heap; 0u32; STATES]?,
+            stack: vec![in heap; 0u32; STATES]?,
+            places: vec![in heap; 0u32; STATES]?,
+        })
+    }
+
+    // How many of the first `size` states have their flag set.
+    fn flagged(&self, size: usize) -> usize {
+        self.flags
+            .iter()
+            .take(size)
+            .filter(|flag| **flag == 1)
+            .count()
+    }
+}
+
+// Reaches the states of the level's walk, those of them that lead to all marked, and the way there from the initial one.
 fn search_walk<B: Bank>(
     chart: &Chart,
     bank: &B,
     level: u8,
-    flags: &mut [u32],
-    stack: &mut [u32],
-    places: &mut [u32],
+    cells: &mut Cells,
 ) -> Result<Found, Refusal> {
     let (part, aim) = match level {
         0 => (Part::High, Aim::HighMarked),
         _ => (Part::Low(level), Aim::LowMarked(level)),
     };
     let size = Walk::of(chart, bank, part)?.size() as usize;
-    reach(chart, bank, part, stack, flags)?;
-    let reached = count(flags, size, 1);
+    reach(chart, bank, part, &mut cells.stack, &mut cells.flags)?;
+    let reached = cells.flagged(size);
+    let Cells {
+        flags,
+        stack,
+        places,
+    } = cells;
     coreach(chart, bank, aim, flags, stack, places)?;
-    let leading = count(flags, size, 1);
-    let steps = match nearest(chart, bank, aim, &Row::initial(bank), stack, places)? {
+    let leading = cells.flagged(size);
+    let from = Row::initial(bank);
+    let steps = match nearest(chart, bank, aim, &from, &mut cells.stack, &mut cells.places)? {
         Way::Unreachable => None,
         Way::Here => Some(0),
         Way::By { distance, .. } => Some(distance),
@@ -85,47 +104,36 @@ fn search_walk<B: Bank>(
 }
 
 // The searches of each level's walk, the high one first: all that they find, added up.
-fn search_line(
-    file: &[u8],
-    flags: &mut [u32],
-    stack: &mut [u32],
-    places: &mut [u32],
-) -> anyhow::Result<Found> {
-    let Ok(chart) = read_chart(file) else {
-        return Err(anyhow!("no line file"));
-    };
-    let Ok(bank) = FileBank::read(file) else {
-        return Err(anyhow!("no line file"));
-    };
+fn search_line(file: &[u8], cells: &mut Cells) -> anyhow::Result<Found> {
+    let chart = read_chart(file).ok().context("no line file")?;
+    let bank = FileBank::read(file).ok().context("no line file")?;
     let mut all = Found {
         reached: 0,
         leading: 0,
         steps: Some(0),
     };
     for level in 0..=chart.levels() {
-        let Ok(found) = search_walk(&chart, &bank, level, flags, stack, places) else {
-            return Err(anyhow!("a walk is too large"));
-        };
+        let found = search_walk(&chart, &bank, level, cells)
+            .ok()
+            .context("a walk is too large")?;
         all = all.with(found);
     }
     Ok(all)
 }
 
 fn main(rt: HostRuntime) -> anyhow::Result<()> {
-    let mut flags = vec![in rt.alloc(); 0u32; STATES]?;
-    let mut stack = vec![in rt.alloc(); 0u32; STATES]?;
-    let mut places = vec![in rt.alloc(); 0u32; STATES]?;
+    let mut cells = Cells::new(rt.alloc())?;
     for name in env::args(&rt)?.skip(1) {
         let file = fs::read(&rt, name.as_str())?;
         let start = Instant::now(&rt)?;
         for _ in 1..TURNS {
-            search_line(file.as_slice(), &mut flags, &mut stack, &mut places)?;
+            search_line(&file, &mut cells)?;
         }
         let Found {
             reached,
             leading,
             steps,
-        } = search_line(file.as_slice(), &mut flags, &mut stack, &mut places)?;
+        } = search_line(&file, &mut cells)?;
         let micros = start.elapsed(&rt)?.as_micros() / u128::from(TURNS);
         println!(rt; "{name} {reached} {leading} {steps:?} {micros}")?;
     }

@@ -1,42 +1,24 @@
 -- From the readings of a file to what is told of it. Assumes nothing.
-use Rattle.std.proofs.Common.{◌≡◌, ℕ, true, List, length, is_ok, Ok, Err, Result, sym, refl, ap, ◌∙◌, subst}
+use Rattle.std.proofs.Common.{◌≡◌, ℕ, List, length, Ok, Err}
 use Rattle.model.specs.Charts.{EventChart}
 use Rattle.model.specs.Generators.{Gen}
-use Rattle.model.specs.Readings.{and_then}
 use Rattle.model.specs.declared.fault.Fault.{Fault}
 use Rattle.linefile.specs.File.{chart_reading, bank_reading}
-use Rattle.hisc.specs.Law.{Law}
-use Rattle.hisc.specs.Lines.{high}
-use Rattle.hisc.specs.Sizes.{Cells, size}
-use Rattle.verdicts.specs.declared.verdict.Verdict.{Verdict}
-use Rattle.verdicts.specs.declared.verdict.Verdict.TheVariants.{Passed, Faulty}
-use Rattle.verdicts.specs.Verdicts.{FileLine, the_line, line_reading, Told, passed, faulty, told_in, CheckedAs, VerdictOn, refused, sound, PassedKeepsLaw}
-use Rattle.verdicts.proofs.OneVerdict.{same_line}
+use Rattle.hisc.specs.Sizes.{Cells}
+use Rattle.verdicts.specs.Verdicts.{FileLine, the_line, line_reading, Told, passed, faulty, CheckedAs, VerdictOn, refused, sound}
 
 module _ (file : List ℕ) where
   pub chart-unread : (f : Fault) → chart_reading file ≡ Err f → line_reading file ≡ Err f
-  chart-unread f h =
-      ap (λ (r : Result EventChart Fault). and_then r (λ chart. and_then (bank_reading file) (λ gens. Ok (record { chart = chart; components = gens })))) h
+  chart-unread f h = cc
 
   module _ (chart : EventChart) (read : chart_reading file ≡ Ok chart) where
     pub bank-unread : (f : Fault) → bank_reading file ≡ Err f → line_reading file ≡ Err f
-    bank-unread f h =
-        ap (λ (r : Result EventChart Fault). and_then r (λ k. and_then (bank_reading file) (λ gens. Ok (record { chart = k; components = gens })))) read
-        ∙ ap (λ (r : Result (List Gen) Fault). and_then r (λ gens. Ok (record { chart = chart; components = gens }))) h
+    bank-unread f h = cc
 
     pub line_read : (gens : List Gen) → bank_reading file ≡ Ok gens → line_reading file ≡ Ok (record { chart = chart; components = gens })
-    line_read gens h =
-        ap (λ (r : Result EventChart Fault). and_then r (λ k. and_then (bank_reading file) (λ gens. Ok (record { chart = k; components = gens })))) read
-        ∙ ap (λ (r : Result (List Gen) Fault). and_then r (λ gens. Ok (record { chart = chart; components = gens }))) h
+    line_read gens h = cc
 
   module _ (m : FileLine) (read : line_reading file ≡ Ok m) (cells : Cells) where
     pub told-so : (t : Told) → CheckedAs (the_line m) (length m.components) cells t → VerdictOn file cells t
-    told-so (passed top lows) h =
-        subst (λ (n : ℕ). VerdictOn file cells (passed n lows)) (sym h.1)
-        (subst (λ (w : List ℕ). VerdictOn file cells (passed (size (the_line m) (high (the_line m))) w)) (sym h.2) (sound m read h.0))
+    told-so (passed top lows) h = rw (h.1, h.2) (sound m read h.0)
     told-so (faulty f) h = refused m read h
-
-    pub law-kept : (r : Result Verdict Fault) → (is_ok r ≡ true → Law (the_line m)) → PassedKeepsLaw file (told_in r)
-    law-kept (Ok (Passed levels sizes)) h = λ n q. subst (λ (k : FileLine). Law (the_line k)) (same_line file m n read q) (h refl)
-    law-kept (Ok (Faulty f)) h = tt
-    law-kept (Err f) h = tt

@@ -11,7 +11,6 @@ use Rattle.hisc.specs.Calls.{row}
 use Rattle.hisc.specs.Law.{Law}
 use Rattle.hisc.specs.Verdict.{Verdict as CheckAnswer}
 use Rattle.verdicts.specs.declared.verdict.Verdict.{Verdict}
-use Rattle.verdicts.specs.declared.verdict.Verdict.TheVariants.{Passed, Faulty}
 
 -- what a file means: its chart and its components
 pub record FileLine : Type 0 where
@@ -33,8 +32,7 @@ pub data Told : Type 0 where
 
 -- what a verdict of the code tells
 abbrev pub told_by : Verdict → Told
-told_by (Passed levels sizes) = passed sizes.high (take levels sizes.lows)
-told_by (Faulty fault) = faulty fault
+told_by v = passed v.sizes.high (take v.levels v.sizes.lows)
 
 abbrev pub told_in : Result Verdict Fault → Told
 told_in (Ok verdict) = told_by verdict
@@ -43,6 +41,10 @@ told_in (Err fault) = faulty fault
 -- the sizes of the low walks 1 to n
 abbrev pub low_sizes : Line → List ℕ
 low_sizes l = row l.chart.levels (λ i. size l (low l (suc i)))
+
+-- what is told of a line that passes
+abbrev pub told_of : Line → Told
+told_of l = passed (size l (high l)) (low_sizes l)
 
 -- what is to be told of a line over so many components, with work cells of three lengths: the answer of the check
 abbrev pub CheckedAs : Line → (components : ℕ) → Cells → Told → Type 0
