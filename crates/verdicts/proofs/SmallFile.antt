@@ -9,7 +9,8 @@ use Rattle.model.specs.declared.fault.Fault.TheVariants.{Header, Contents, Body}
 use Rattle.model.proofs.Finds.{all-at}
 use Rattle.generators.specs.Selfloops.{looped}
 use Rattle.generators.specs.Formed.{looped-formed}
-use Rattle.charts.specs.Rows.{kind_of, byte_fits, first_wrong, chart_in, lacking, rows_reading}
+use Rattle.model.specs.Kinds.{kind_of}
+use Rattle.charts.specs.Rows.{byte_fits, first_wrong, chart_in, lacking, rows_reading}
 use Rattle.makes.specs.Shapes.{Shape, table, stock, shape_in}
 use Rattle.makes.specs.Meanings.{gen_of}
 use Rattle.makes.specs.Formed.{formed}

@@ -29,7 +29,7 @@ returns c =
     let file = c.args.file.now in
     let k = c.in_ok-chart.chart in
     let b = c.in_ok-bank.bank in
-    let gens = list_from b.len b.events b.alphabets (texts b.bodies) in
+    let gens = list_from (chart_of b.chart) (texts b.bodies) in
     let cells = cells_in (length c.args.first.now) (length c.args.second.now) (length c.args.third.now) in
     let read = line_read file (chart_of k) (sym c.in_ok-chart.ensures) gens (sym c.in_ok-bank.ensures) in
     record {
