@@ -30,7 +30,7 @@ impl Row {
         let kind = Kind::try_from(kind).map_err(|_| Fault::Event { place })?;
         let owner_fits = match kind {
             Kind::High => owner == 0,
-            _ => 1 <= owner && owner <= levels,
+            _ => (1..=levels).contains(&owner),
         };
         if !owner_fits {
             return Err(Fault::Event { place: place + 1 });
