@@ -1,7 +1,8 @@
 -- The contents rows, one after the other. Assumes nothing.
-use Rattle.std.proofs.Common.{◌≡◌, ℕ, ◌+◌, ◌-◌, ◌*◌, ◌<◌, ◌≤◌, Bool, true, false, eqb, leb, List, [], length, get_or, take, drop, set, Ok, Err, Result, sym, refl, ap, ◌∙◌, subst, ⊎_elim, add-one, arith, Bor}
+use Rattle.std.proofs.Common.{◌≡◌, ℕ, ◌+◌, ◌-◌, ◌*◌, ◌<◌, ◌≤◌, Bool, eqb, leb, List, [], length, get_or, take, drop, set, Ok, Err, Result, sym, refl, ap, ◌∙◌, subst, ⊎_elim, add-one, arith, Bor}
 use Rattle.std.proofs.lemmas.List.{get_or-map, length-take, take_rest, get_or-drop, length-drop, length-map, map-set, get_or-set_same, get_or-set_other}
-use Rattle.std.proofs.lemmas.Bool.{cases_lt, leb-true, lt-leb, le-leb, eq-eqb, ne_eqb}
+use Rattle.std.proofs.lemmas.Bool.Decides.{nat_tests}
+use Rattle.std.proofs.lemmas.Bool.{cases_lt, leb-true}
 use Rattle.model.specs.declared.fault.Fault.{Fault}
 use Rattle.model.specs.declared.fault.Fault.TheVariants.{Contents}
 use Rattle.model.specs.Readings.{provided, in_turn}
@@ -47,9 +48,7 @@ body_reading file at start size place =
 module _ (n : ℕ) (file : List ℕ) (r start size at : ℕ) (s : start ≡ row_start file r) (z : size ≡ row_length file r) (a : at ≡ body_start n file r) where
   row-err : (e : Fault) (p q : Bool) → Err e ≡ provided p (Contents (3 + 4 * r)) (provided q (Contents (3 + 4 * r + 2)) (Ok (take size (drop at file)))) →
       provided {X = Unit {0}} p (Contents (3 + 4 * r)) (provided {X = Unit {0}} q (Contents (3 + 4 * r + 2)) (Ok tt)) ≡ Err e
-  row-err e true true h = absurd (let k : ◌≡◌ {A = ℕ} 0 1 = cc in omega arith)
-  row-err e true false h = let k : e ≡ Contents (3 + 4 * r + 2) = cc in ap Err (sym k)
-  row-err e false q h = let k : e ≡ Contents (3 + 4 * r) = cc in ap Err (sym k)
+  row-err e p q h = grind arith
 
   pub row-off : (e : Fault) → Err e ≡ body_reading file at start size (3 + 4 * r) → row_reading n file r ≡ Err e
   row-off e h =
@@ -65,11 +64,11 @@ module _ (n : ℕ) (file : List ℕ) (r start size at : ℕ) (s : start ≡ row_
   row_on body h =
       let p = provided-ok (eqb start at) (Contents (3 + 4 * r)) (provided (leb (at + size) (length file)) (Contents (3 + 4 * r + 2)) (Ok (take size (drop at file)))) body h in
       let q = provided-ok (leb (at + size) (length file)) (Contents (3 + 4 * r + 2)) (Ok (take size (drop at file))) body p.1 in
-      let b : body ≡ take size (drop at file) = (let t = q.1 in cc) in
+      let t = q.1 in
       record {
         reads = rw (← s, ← z, ← a, p.0, q.0) refl;
         ends = leb-true (at + size) (length file) q.0;
-        is = rw (← z, ← a) b;
+        is = rw (← z, ← a) (cc);
       }
 
 pub start-on : (n : ℕ) (file : List ℕ) (r at size : ℕ) → at ≡ body_start n file r → size ≡ row_length file r → at + size ≡ body_start n file (r + 1)
@@ -80,10 +79,7 @@ turns-on n file r before here = rw (add-one r) (turn_on (row_reading n file) r t
 
 -- the body of a row that is right ends within the file, and is as long as the row says
 pub row_ends : (n : ℕ) (file : List ℕ) (r : ℕ) → row_reading n file r ≡ Ok tt → body_start n file r + row_length file r ≤ length file
-row_ends n file r h =
-    let p = provided-ok (eqb (row_start file r) (body_start n file r)) (Contents (3 + 4 * r)) (provided (leb (body_start n file r + row_length file r) (length file)) (Contents (3 + 4 * r + 2)) (Ok tt)) tt (sym h) in
-    let q = provided-ok (leb (body_start n file r + row_length file r) (length file)) (Contents (3 + 4 * r + 2)) (Ok tt) tt p.1 in
-    leb-true (body_start n file r + row_length file r) (length file) q.0
+row_ends n file r h = grind (arith, nat_tests)
 
 pub body-length : (n : ℕ) (file : List ℕ) (r : ℕ) → row_reading n file r ≡ Ok tt → length (body_of n file r) ≡ row_length file r
 body-length n file r h = let fits = row_ends n file r h in simp (length-take, length-drop) (omega arith)
@@ -101,25 +97,22 @@ first-length n file bs d some found right =
 module _ (n E : ℕ) (file : List ℕ) where
   pub contents-short : length file < contents_end n → Err (Contents (length file)) ≡ contents_reading n E file
   unfolding contents_reading
-  contents-short h = rw (lt-leb (contents_end n) (length file) h) refl
+  contents-short h = grind (arith, nat_tests)
 
   module _ (whole : contents_end n ≤ length file) where
     pub contents-row : (e : Fault) → Err e ≡ in_turn (row_reading n file) (rows n) → Err e ≡ contents_reading n E file
     unfolding contents_reading
-    contents-row e h = rw (le-leb (contents_end n) (length file) whole, ← h) refl
+    contents-row e h = grind (arith, nat_tests)
 
     module _ (right : Ok tt ≡ in_turn (row_reading n file) (rows n)) where
       pub contents-events : (row_length file 0 ≡ 3 * E → ⊥) → Err (Contents 5) ≡ contents_reading n E file
       unfolding contents_reading
-      contents-events h = rw (le-leb (contents_end n) (length file) whole, ← right, ne_eqb (row_length file 0) (3 * E) h) refl
+      contents-events h = grind (arith, nat_tests)
 
       pub contents-spare : row_length file 0 ≡ 3 * E → (end : ℕ) → end ≡ body_start n file (rows n) → end < length file → Err (Contents end) ≡ contents_reading n E file
       unfolding contents_reading
-      contents-spare h end is lt =
-          rw (is)
-          (let ne : body_start n file (rows n) ≡ length file → ⊥ = λ q. omega (arith, is, q, lt) in
-          rw (le-leb (contents_end n) (length file) whole, ← right, eq-eqb (row_length file 0) (3 * E) h, ne_eqb (body_start n file (rows n)) (length file) ne) refl)
+      contents-spare h end is lt = grind (arith, nat_tests)
 
       pub contents-whole : row_length file 0 ≡ 3 * E → body_start n file (rows n) ≡ length file → Ok tt ≡ contents_reading n E file
       unfolding contents_reading
-      contents-whole h e = rw (le-leb (contents_end n) (length file) whole, ← right, eq-eqb (row_length file 0) (3 * E) h, eq-eqb (body_start n file (rows n)) (length file) e) refl
+      contents-whole h e = grind (arith, nat_tests)

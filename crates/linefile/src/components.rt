@@ -15,6 +15,7 @@ impl<'a> Contents<'a> {
     {
         let events = self.header.events();
         let mut start = contents_end(self.header) + self.bodies[0].len();
+        // the reader is told the component's number and, by a cast that fits, its place, so the loop goes by the number
         for component in 0..self.header.components() {
             let body = self.bodies[usize::from(component) + 1];
             Make::read_at(body, events, Some(component), start as u16)?;

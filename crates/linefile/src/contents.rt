@@ -87,6 +87,7 @@ impl<'a> Laid<'a> {
     }
 }
 
+// Places and lengths are at most 60,000, so they fit where they are cast: a usize has no From into smaller types.
 impl<'a> Contents<'a> {
     // Reads the header and the contents rows.
     pub(crate) fn read(file: &'a [u8]) -> Result<Contents<'a>, Fault>

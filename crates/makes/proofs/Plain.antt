@@ -1,15 +1,14 @@
 -- The meaning of a body that was read is what its bytes say. Assumes nothing.
-use Rattle.std.proofs.Common.{◌≡◌, ℕ, ◌+◌, ◌-◌, ◌*◌, ◌%◌, ◌<◌, ◌≤◌, Bool, true, false, not, ◌&&◌, ◌||◌, eqb, ltb, leb, ◌≢◌, ◌⊎◌, List, [], ◌∷◌, length, get_or, take, drop, sym, refl, ap, ◌∙◌, subst, inl, inr, ⊎_elim, mul_comm, arith}
+use Rattle.std.proofs.Common.{◌≡◌, ℕ, ◌+◌, ◌-◌, ◌*◌, ◌%◌, ◌<◌, ◌≤◌, Bool, true, false, not, ◌||◌, eqb, ltb, ◌≢◌, ◌⊎◌, List, [], ◌∷◌, length, get_or, take, drop, sym, refl, ap, ◌∙◌, subst, inl, inr, mul_comm, arith}
 use Rattle.std.proofs.lemmas.Bool.Decides.{nat_tests}
 use Rattle.std.proofs.lemmas.List.{get_or-take, get_or-drop, get_or_past, get_or_default, length-take-le, length-drop}
-use Rattle.std.proofs.lemmas.Bool.{eq-eqb, ne_eqb, eqb-true, lt-ltb, le-ltb, ltb-true, leb-true, and_parts, and_from, and_right, or_cases, or_left, or_right, not-true, cases_eq}
+use Rattle.std.proofs.lemmas.Bool.{eqb-true, lt-ltb, le-ltb, and_right, cases_eq}
 use Rattle.std.proofs.lemmas.Nat.{mul-add-lt, mod-mul-add}
 use Rattle.model.specs.declared.next.Next.TheVariants.{Forbidden, To}
-use Rattle.model.specs.Numbers.{any}
-use Rattle.model.proofs.Finds.{any-from, never}
-use Rattle.makes.specs.Letters.{is_not, is_known, is_mark, is_step, is_none}
+use Rattle.model.proofs.Finds.{any-from}
+use Rattle.makes.specs.Letters.{is_not, is_known, is_mark, is_step}
 use Rattle.makes.specs.Shapes.{Shape, stock, table_in, counter_in, stock_in}
-use Rattle.makes.specs.Bodies.{table_fits, counter_fits, stock_fits, column_fits, target_fits}
+use Rattle.makes.specs.Bodies.{table_fits, counter_fits, stock_fits, target_fits}
 use Rattle.makes.specs.Meanings.{gen_of, counted, reply, table_initial, table_knows, table_marks, table_target, table_next, counter_knows, step_permitted, stepped, counter_next, stock_knows, stock_next}
 use Rattle.makes.specs.Laws.{TablePlain, CounterPlain, StockPlain, Tables-plain, Counters-plain, Stocks-plain, target_byte}
 use Rattle.makes.proofs.Departures.{fits-table, fits-counter, fits-stock, shape-table, shape-counter, shape-stock, read-shape, read-size, read_fits}
@@ -34,9 +33,7 @@ module _ (E : ℕ) (body : List ℕ) (few : E ≤ 64) (size : length body ≡ 3 
   targets = drop (3 + E + get_or body 1 0) body
 
   count-some : (1 ≤ get_or body 1 0) × (get_or body 1 0 ≤ 200)
-  count-some =
-      let p = and_parts (leb 1 (get_or body 1 0)) (leb (get_or body 1 0) 200) (fits 1 (omega arith)) in
-      (leb-true 1 (get_or body 1 0) p.0, leb-true (get_or body 1 0) 200 p.1)
+  count-some = let f = fits 1 (omega arith) in grind (arith, nat_tests)
 
   count-is : counted (get_or body 1 0) ≡ get_or body 1 0
   count-is = omega (arith, count-some.0, count-some.1)
@@ -78,30 +75,17 @@ module _ (E : ℕ) (body : List ℕ) (few : E ≤ 64) (size : length body ≡ 3 
         let f = fits (3 + E + get_or body 1 0 + (s * E + e)) (omega (arith, within)) in
         let d : 3 + E + get_or body 1 0 + (s * E + e) - (3 + E + get_or body 1 0) ≡ s * E + e = omega arith in
         let m : (s * E + e) % E ≡ e = mod-mul-add s E e event in
-        let g : (ltb (3 + E + get_or body 1 0 + (s * E + e)) (3 + E + get_or body 1 0 + get_or body 1 0 * E) && target_fits (get_or body 1 0) (get_or body (3 + e) 0) (target_byte E body s e)) ≡ true =
-        rw (
-          ne_eqb (3 + E + get_or body 1 0 + (s * E + e)) 0 (λ q. omega arith),
-          ne_eqb (3 + E + get_or body 1 0 + (s * E + e)) 1 (λ q. omega arith),
-          ne_eqb (3 + E + get_or body 1 0 + (s * E + e)) 2 (λ q. omega arith),
-          le-ltb (3 + E + get_or body 1 0 + (s * E + e)) (3 + E) (omega arith),
-          le-ltb (3 + E + get_or body 1 0 + (s * E + e)) (3 + E + get_or body 1 0) (omega arith),
-          d,
-          m,
-        ) at f in
-        (and_parts _ _ g).1
+        let g = rw (d, m) at f in
+        grind (arith, nat_tests)
 
     moves-is : target_byte E body s e ≢ 255 → table_next (counted (get_or body 1 0)) letters targets s e ≡ To (target_byte E body s e)
     moves-is some =
-        let p : (is_known (get_or body (3 + e) 0) && ltb (target_byte E body s e) (get_or body 1 0)) ≡ true =
-        ⊎_elim (λ q. absurd (some (eqb-true (target_byte E body s e) 255 q))) (λ q. q)
-        (or_cases (is_none (target_byte E body s e)) (is_known (get_or body (3 + e) 0) && ltb (target_byte E body s e) (get_or body 1 0)) target-in_range) in
-        let k = and_parts (is_known (get_or body (3 + e) 0)) (ltb (target_byte E body s e) (get_or body 1 0)) p in
-        rw (target_is, count-is) (permitted _ _ _ (knows-is e event ∙ k.0) (and_from _ _ (lt-ltb s (get_or body 1 0) state) k.1))
+        let range = target-in_range in
+        let known = knows-is e event in
+        grind (arith, nat_tests, target_is, count-is)
 
     stops-is : target_byte E body s e ≡ 255 → table_knows letters e ≡ true → table_next (counted (get_or body 1 0)) letters targets s e ≡ Forbidden
-    stops-is none known =
-        forbidden _ _ _ known
-        (and_right _ _ (le-ltb (table_target letters targets s e) (counted (get_or body 1 0)) (omega (arith, target_is, count-is, count-some.1))))
+    stops-is none known = let few_states = count-some.1 in grind (arith, nat_tests, target_is, count-is)
 
   table-plain : TablePlain E body (gen_of (table_in E body))
   unfolding letters targets
@@ -130,7 +114,7 @@ step-or-not l h = grind (arith, nat_tests)
 
 module _ (E : ℕ) (body : List ℕ) (few : E ≤ 64) (size : length body ≡ 2 + E) (fits : (i : ℕ) → i < length body → counter_fits E body i ≡ true) where
   capacity-few : get_or body 1 0 ≤ 199
-  capacity-few = leb-true (get_or body 1 0) 199 (and_parts (leb 1 (get_or body 1 0)) (leb (get_or body 1 0) 199) (fits 1 (omega arith))).1
+  capacity-few = let f = fits 1 (omega arith) in grind (arith, nat_tests)
 
   states-is : counted (get_or body 1 0 + 1) ≡ get_or body 1 0 + 1
   states-is = omega (arith, capacity-few)
@@ -143,11 +127,7 @@ module _ (E : ℕ) (body : List ℕ) (few : E ≤ 64) (size : length body ≡ 2 
 
   -- what the reader tested of the letter
   step_fits : (e : ℕ) → e < E → (is_not (get_or body (2 + e) 0) || is_step (get_or body (2 + e) 0)) ≡ true
-  step_fits e h =
-      let f = fits (2 + e) (omega arith) in
-      let g : (ltb (2 + e) (2 + E) && (is_not (get_or body (2 + e) 0) || is_step (get_or body (2 + e) 0))) ≡ true =
-      rw (ne_eqb (2 + e) 0 (λ q. omega arith), ne_eqb (2 + e) 1 (λ q. omega arith)) at f in
-      (and_parts (ltb (2 + e) (2 + E)) (is_not (get_or body (2 + e) 0) || is_step (get_or body (2 + e) 0)) g).1
+  step_fits e h = let f = fits (2 + e) (omega arith) in grind (arith, nat_tests)
 
   step-others : (e : ℕ) → E ≤ e → counter_knows (drop 2 body) e ≡ false
   step-others e h =
@@ -187,15 +167,11 @@ counters-plain component origin E body s few read letter =
 -- stocks
 stock-forth : (a b c d e : ℕ) → e < 64 → (e ≡ a) ⊎ (e ≡ b) → e ≢ c → e ≢ d →
     (stock_next (a ∷ (b ∷ (c ∷ (d ∷ [])))) 0 e ≡ To 1) × (stock_next (a ∷ (b ∷ (c ∷ (d ∷ [])))) 1 e ≡ Forbidden)
-stock-forth a b c d e h is no-c no-d =
-    let f : (eqb e a || eqb e b) ≡ true = ⊎_elim (λ p. or_left (eqb e a) (eqb e b) (eq-eqb e a p)) (λ p. or_right (eqb e a) (eqb e b) (eq-eqb e b p)) is in
-    (rw (lt-ltb e 64 h, f), rw (lt-ltb e 64 h, f, ne_eqb e c no-c, ne_eqb e d no-d))
+stock-forth a b c d e h is no-c no-d = (grind (arith, nat_tests), grind (arith, nat_tests))
 
 stock-back : (a b c d e : ℕ) → e < 64 → (e ≡ c) ⊎ (e ≡ d) → e ≢ a → e ≢ b →
     (stock_next (a ∷ (b ∷ (c ∷ (d ∷ [])))) 1 e ≡ To 0) × (stock_next (a ∷ (b ∷ (c ∷ (d ∷ [])))) 0 e ≡ Forbidden)
-stock-back a b c d e h is no-a no-b =
-    let f : (eqb e c || eqb e d) ≡ true = ⊎_elim (λ p. or_left (eqb e c) (eqb e d) (eq-eqb e c p)) (λ p. or_right (eqb e c) (eqb e d) (eq-eqb e d p)) is in
-    (rw (lt-ltb e 64 h, ne_eqb e a no-a, ne_eqb e b no-b, f), rw (lt-ltb e 64 h, ne_eqb e a no-a, ne_eqb e b no-b, f))
+stock-back a b c d e h is no-a no-b = (grind (arith, nat_tests), grind (arith, nat_tests))
 
 module _ (E : ℕ) (body : List ℕ) (few : E ≤ 64) (size : length body ≡ 6) (fits : (i : ℕ) → i < length body → stock_fits E body i ≡ true) where
   -- what the reader tested of a column that has an event
@@ -203,15 +179,10 @@ module _ (E : ℕ) (body : List ℕ) (few : E ≤ 64) (size : length body ≡ 6)
       (get_or body (2 + k) 0 < E) × ((j : ℕ) → j < k → get_or body (2 + j) 0 ≢ get_or body (2 + k) 0)
   column-in_range k h some =
       let f = fits (2 + k) (omega arith) in
-      let g : (ltb (2 + k) 6 && column_fits E body (2 + k)) ≡ true = rw (ne_eqb (2 + k) 0 (λ q. omega arith), ne_eqb (2 + k) 1 (λ q. omega arith)) at f in
-      let early : ℕ → Bool = λ j. eqb (get_or body (2 + j) 0) (get_or body (2 + k) 0) in
-      let p : (ltb (get_or body (2 + k) 0) E && not (any (2 + k - 2) early)) ≡ true =
-      ⊎_elim (λ q. absurd (some (eqb-true (get_or body (2 + k) 0) 255 q))) (λ q. q)
-      (or_cases (is_none (get_or body (2 + k) 0)) (ltb (get_or body (2 + k) 0) E && not (any (2 + k - 2) early)) (and_parts (ltb (2 + k) 6) (column_fits E body (2 + k)) g).1) in
-      let q = and_parts (ltb (get_or body (2 + k) 0) E) (not (any (2 + k - 2) early)) p in
       let last : 2 + k - 2 ≡ k = omega arith in
-      let none = not-true (any (2 + k - 2) early) q.1 in
-      (ltb-true (get_or body (2 + k) 0) E q.0, λ j l same. never (any-from (2 + k - 2) early j (rw last l) (eq-eqb (get_or body (2 + j) 0) (get_or body (2 + k) 0) same)) none)
+      let g = rw last at f in
+      let early : ℕ → Bool = λ j. eqb (get_or body (2 + j) 0) (get_or body (2 + k) 0) in
+      (grind (arith, nat_tests), λ j l same. let a = any-from k early j l in grind (arith, nat_tests))
 
   column-at : (k : ℕ) → k < 4 → get_or body (2 + k) 255 ≡ get_or body (2 + k) 0
   column-at k h = get_or_default body (2 + k) 255 0 (omega arith)
@@ -254,13 +225,11 @@ module _ (E : ℕ) (body : List ℕ) (few : E ≤ 64) (size : length body ≡ 6)
   none-at : (e : ℕ) → ((k : ℕ) → k < 4 → get_or body (2 + k) 0 ≢ e) → stock_knows columns e ≡ false
   unfolding columns
   none-at e off =
-      rw (
-        ne_eqb e (get_or body 2 0) (λ q. off 0 (omega arith) (sym q)),
-        ne_eqb e (get_or body 3 0) (λ q. off 1 (omega arith) (sym q)),
-        ne_eqb e (get_or body 4 0) (λ q. off 2 (omega arith) (sym q)),
-        ne_eqb e (get_or body 5 0) (λ q. off 3 (omega arith) (sym q)),
-      )
-      (and_right (ltb e 64) false refl)
+      let a = off 0 (omega arith) in
+      let b = off 1 (omega arith) in
+      let c = off 2 (omega arith) in
+      let d = off 3 (omega arith) in
+      grind (arith, nat_tests)
 
   stock-plain : StockPlain E body (gen_of (stock_in body))
   stock-plain =

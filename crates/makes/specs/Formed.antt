@@ -1,26 +1,22 @@
 -- Every make means a well-formed generator. Assumes nothing.
-use Rattle.std.specs.Prelude.{◌≡◌, ℕ, ◌+◌, ◌-◌, ◌<◌, ◌≤◌, Bool, true, false, cond, ◌&&◌, ◌||◌, ltb, ◌==◌, ◌≢◌, nat_lt, slice_index, refl}
-use Rattle.std.proofs.Common.{⊎_elim, arith}
-use Rattle.std.proofs.lemmas.Bool.{ltb-true, eqb-true, and_parts, or_cases, cond_both}
+use Rattle.std.specs.Prelude.{◌≡◌, ℕ, ◌+◌, ◌-◌, ◌<◌, ◌≤◌, Bool, true, false, cond, ◌&&◌, ◌||◌, ◌==◌, ◌≢◌, nat_lt, slice_index}
+use Rattle.std.proofs.Common.{arith}
+use Rattle.std.proofs.lemmas.Bool.Decides.{nat_tests}
+use Rattle.std.proofs.lemmas.Bool.{eqb-true}
 use Rattle.model.specs.Generators.{WellFormed}
 use Rattle.model.specs.declared.next.Next.TheVariants.{Foreign, Forbidden, To}
-use Rattle.makes.specs.Letters.{is_known, is_mark, is_up, is_down, is_step}
+use Rattle.makes.specs.Letters.{is_known, is_step}
 use Rattle.makes.specs.Shapes.{Shape, table, counter, stock}
 use Rattle.makes.specs.Meanings.{counted, reply, table_target, step_permitted, stepped, is_forth, is_back, gen_of}
 
 reply-foreign : (known permitted : Bool) (t : ℕ) → reply known permitted t ≡ Foreign → known ≡ false
-reply-foreign false permitted t h = refl
-reply-foreign true true t h = let z : ◌≡◌ {A = ℕ} 0 1 = cc in absurd (omega arith)
-reply-foreign true false t h = let z : ◌≡◌ {A = ℕ} 0 1 = cc in absurd (omega arith)
+reply-foreign known permitted t h = grind arith
 
 reply-to : (known permitted : Bool) (t u : ℕ) → reply known permitted t ≡ To u → (permitted ≡ true) × (t ≡ u)
-reply-to false permitted t u h = let z : ◌≡◌ {A = ℕ} 0 1 = cc in absurd (omega arith)
-reply-to true false t u h = let z : ◌≡◌ {A = ℕ} 0 1 = cc in absurd (omega arith)
-reply-to true true t u h = (refl, cc)
+reply-to known permitted t u h = grind arith
 
 reply-forbidden : (known permitted : Bool) (t : ℕ) → known ≡ true → (permitted ≢ true) → reply known permitted t ≡ Forbidden
-reply-forbidden known true t h off = absurd (off refl)
-reply-forbidden known false t h off = rw h
+reply-forbidden known permitted t h off = grind arith
 
 -- a generator whose permitted moves lead from a state to a state
 moving : (count initial : ℕ) (knows marked : ℕ → Bool) (permitted : ℕ → ℕ → Bool) (to : ℕ → ℕ → ℕ) →
@@ -42,41 +38,30 @@ moving count initial knows marked permitted to one few begins events marks stays
 }
 
 event-small : (e : ℕ) (b : Bool) → (nat_lt e 64 && b) ≡ true → e < 64
-event-small e b h = ltb-true e 64 (and_parts (nat_lt e 64) b h).0
+event-small e b h = grind (arith, nat_tests)
 
 start-below : (i n : ℕ) → 1 ≤ n → cond (nat_lt i n) i 0 < n
-start-below i n h = cond_both (nat_lt i n) i 0 (λ x. x < n) (λ b. ltb-true i n b) (λ b. h)
+start-below i n h = grind (arith, nat_tests)
 
-step-inside : (n l s : ℕ) (up down : Bool) → is_up l ≡ up → is_down l ≡ down → step_permitted n l s ≡ true → (s < n) × (stepped l s < n)
-step-inside n l s true down u d h = let k : ltb (s + 1) n ≡ true = rw u at h in rw u (let p = ltb-true (s + 1) n k in (omega arith, p))
-step-inside n l s false true u d h =
-    let k : (nat_lt 0 s && nat_lt s n) ≡ true = rw (u, d) at h in
-    let p = ltb-true s n (and_parts (nat_lt 0 s) (nat_lt s n) k).1 in
-    rw (u, d) (p, omega arith)
-step-inside n l s false false u d h = let k : ltb s n ≡ true = rw (u, d) at h in let p = ltb-true s n k in rw (u, d) (p, p)
+step-inside : (n l s : ℕ) → step_permitted n l s ≡ true → (s < n) × (stepped l s < n)
+step-inside n l s h = grind (arith, nat_tests)
 
 pub formed : (s : Shape) → WellFormed (gen_of s)
 formed (table n i letters marks targets) =
     moving _ _ _ _ (λ s e. nat_lt s (counted n) && nat_lt (table_target letters targets s e) (counted n)) (λ s e. table_target letters targets s e)
     (omega arith) (omega arith) (start-below i (counted n) (omega arith))
     (λ e h. event-small e (is_known (slice_index letters e)) h)
-    (λ s h. ltb-true s (counted n) (and_parts (nat_lt s (counted n)) (is_mark (slice_index marks s)) h).0)
-    (λ s e h.
-    let p = and_parts (nat_lt s (counted n)) (nat_lt (table_target letters targets s e) (counted n)) h in
-    (ltb-true s (counted n) p.0, ltb-true (table_target letters targets s e) (counted n) p.1))
+    (λ s h. (grind (arith, nat_tests)))
+    (λ s e h. grind (arith, nat_tests))
 formed (counter c letters) =
     moving _ _ _ _ (λ s e. step_permitted (counted (c + 1)) (slice_index letters e) s) (λ s e. stepped (slice_index letters e) s)
     (omega arith) (omega arith) (omega arith)
     (λ e h. event-small e (is_step (slice_index letters e)) h)
     (λ s h. omega (arith, eqb-true s 0 h))
-    (λ s e h. step-inside (counted (c + 1)) (slice_index letters e) s _ _ refl refl h)
+    (λ s e h. step-inside (counted (c + 1)) (slice_index letters e) s h)
 formed (stock columns) =
     moving _ _ _ _ (λ s e. (s == 0 && is_forth columns e) || (s == 1 && is_back columns e)) (λ s e. 1 - s)
     (omega arith) (omega arith) (omega arith)
     (λ e h. event-small e (is_forth columns e || is_back columns e) h)
     (λ s h. omega (arith, eqb-true s 0 h))
-    (λ s e h.
-    ⊎_elim
-    (λ p. let z = eqb-true s 0 (and_parts (s == 0) (is_forth columns e) p).0 in (omega arith, omega arith))
-    (λ p. let z = eqb-true s 1 (and_parts (s == 1) (is_back columns e) p).0 in (omega arith, omega arith))
-    (or_cases (s == 0 && is_forth columns e) (s == 1 && is_back columns e) h))
+    (λ s e h. grind (arith, nat_tests))

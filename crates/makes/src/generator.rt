@@ -45,6 +45,7 @@ fn table_marked(count: u8, marks: &[u8], state: u16) -> bool
 fn target(letters: &[u8], targets: &[u8], state: u16, event: u8) -> u8
     ensures { result ≡ table_target letters.now targets.now state event }
 {
+    // in 128 bits no product of a state and a width overflows; the check of the bound leaves a place that fits
     let place = u128::from(state) * letters.len() as u128 + u128::from(event);
     if place < targets.len() as u128 {
         targets[place as usize]

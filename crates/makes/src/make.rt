@@ -78,6 +78,7 @@ fn whole(body: &Body, component: Option<u8>, origin: u16) -> Result<(), Fault>
     let place = body.departure();
     let end = body.size();
     if place < body.bytes.len() || place < end {
+        // a usize has no From into u32; a departure is at most a size, which is small
         return Err(Fault::Body {
             component,
             place: u32::from(origin) + place as u32,

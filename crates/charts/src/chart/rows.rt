@@ -30,7 +30,7 @@ impl Row {
         let kind = Kind::try_from(kind).map_err(|_| Fault::Event { place })?;
         let owner_fits = match kind {
             Kind::High => owner == 0,
-            _ => 1 <= owner && owner <= levels,
+            _ => (1..=levels).contains(&owner),
         };
         if !owner_fits {
             return Err(Fault::Event { place: place + 1 });
@@ -80,6 +80,7 @@ impl Sets {
         ensures { RowsRead header.levels header.events rows.now origin result }
     {
         let mut sets = Sets::EMPTY;
+        // rows are taken apart by slice patterns, so the rest is carried along
         let mut left = rows;
         for event in 0..header.events {
             let [kind, owner, control, rest @ ..] = left else {
@@ -125,6 +126,7 @@ impl Chart {
     {
         let size = 3 * usize::from(header.events);
         if rows.len() != size {
+            // a usize has no From into u32; the lesser length is at most 192
             return Err(Fault::Contents {
                 place: u32::from(origin) + rows.len().min(size) as u32,
             });

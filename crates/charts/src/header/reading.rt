@@ -8,7 +8,7 @@ ghost use Rattle.charts.specs.Meanings.{header_meaning};
 use super::Header;
 use model::fault::Fault;
 
-// A line file has at most this many bytes.
+// A line file has at most this many bytes, so a length fits where it is cast to u32, for which a usize has no From.
 const MAX_LENGTH: usize = 60000;
 
 impl Header {
