@@ -9,12 +9,12 @@ use Rattle.guidance.specs.Ready.{lent}
 use Rattle.guidance.proofs.Lowest.{unrested-level}
 use Rattle.guidance.proofs.Rules.{gives-ok, gives-refused, rest-step}
 use Rattle.guidance.proofs.Ways.{nearest-is}
-use Rattle.guidance.proofs.advice.toward_rest.Goals as goal
+use Rattle.guidance.proofs.advice.Place.toward_rest.Goals as goal
 
 pub returns-in_err-way : goal.returns-in_err-way
 returns-in_err-way g c =
-    let l = line_in g.B.Bank.list c.args.line.now in
-    let x = row_state c.args.row.now in
+    let l = line_in g.B.Bank.list c.args.self.now.line.now in
+    let x = row_state c.args.self.now.row.now in
     let cells = lent c.args.queue.now c.args.keys.now in
     let j = c.in-Some.level in
     let p = err_from_is_err_and c.from_residual.result c.from_residual.ensures.1 in
@@ -23,8 +23,8 @@ returns-in_err-way g c =
 
 pub returns : goal.returns
 returns g c =
-    let l = line_in g.B.Bank.list c.args.line.now in
-    let x = row_state c.args.row.now in
+    let l = line_in g.B.Bank.list c.args.self.now.line.now in
+    let x = row_state c.args.self.now.row.now in
     let cells = lent c.args.queue.now c.args.keys.now in
     let j = c.in-Some.level in
     let way = c.in_ok-way.way in

@@ -7,23 +7,23 @@ use Rattle.hisc.specs.Points.{answer_enabled}
 use Rattle.walks.specs.Rows.{row_state}
 use Rattle.walks.specs.Given.{line_in}
 use Rattle.guidance.proofs.Lowest.{lowest-at, lowest-none}
-use Rattle.guidance.proofs.advice.lowest_answer.Goals as goal
-use Rattle.guidance.proofs.advice.lowest_answer.Goals.{else-is_answer-via-then-is_answer+else-possible_at, else-is_answer-via-else-is_answer}
+use Rattle.guidance.proofs.advice.Place.lowest_answer.Goals as goal
+use Rattle.guidance.proofs.advice.Place.lowest_answer.Goals.{else-is_answer-via-then-is_answer+else-possible_at, else-is_answer-via-else-is_answer}
 
 pub returns-then-possible_at : goal.returns-then-possible_at
 returns-then-possible_at g c =
-    let l = line_in g.B.Bank.list c.args.line.now in
+    let l = line_in g.B.Bank.list c.args.self.now.line.now in
     let j = c.args.level in
-    let x = row_state c.args.row.now in
+    let x = row_state c.args.self.now.row.now in
     let e = c.loop-event.event in
     sym (ap named (lowest-at l.chart.events (answer_enabled l j x) e (omega (arith, c.events-event-end.ensures.value)) c.loop-event.invariant
     (and_from (possible l (low l j) x e) (is_answer (l.chart.kind e)) (sym c.if-possible_at.ensures) (sym c.if-is_answer.ensures))))
 
 pub loop-event-preserved : goal.loop-event-preserved
 loop-event-preserved g c =
-    let l = line_in g.B.Bank.list c.args.line.now in
+    let l = line_in g.B.Bank.list c.args.self.now.line.now in
     let j = c.args.level in
-    let x = row_state c.args.row.now in
+    let x = row_state c.args.self.now.row.now in
     let e = c.loop-event.event in
     below_more (λ (k : ℕ). answer_enabled l j x k ≡ false) e c.loop-event.invariant
     (elim c.else-is_answer.branch [
@@ -33,6 +33,6 @@ loop-event-preserved g c =
 
 pub returns : goal.returns
 returns g c =
-    let l = line_in g.B.Bank.list c.args.line.now in
-    let x = row_state c.args.row.now in
+    let l = line_in g.B.Bank.list c.args.self.now.line.now in
+    let x = row_state c.args.self.now.row.now in
     sym (ap named (lowest-none l.chart.events (answer_enabled l c.args.level x) c.loop-event.event (omega (arith, c.events-event-end.ensures.value)) c.loop-event.invariant))

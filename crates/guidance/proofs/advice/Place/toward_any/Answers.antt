@@ -8,12 +8,12 @@ use Rattle.guidance.specs.Ready.{lent}
 use Rattle.guidance.specs.Ready.{step_by}
 use Rattle.guidance.proofs.Rules.{gives-ok, any_step}
 use Rattle.guidance.proofs.Ways.{nearest-is}
-use Rattle.guidance.proofs.advice.toward_any.Goals as goal
+use Rattle.guidance.proofs.advice.Place.toward_any.Goals as goal
 
 pub returns : goal.returns
 returns g c =
-    let l = line_in g.B.Bank.list c.args.line.now in
-    let x = row_state c.args.row.now in
+    let l = line_in g.B.Bank.list c.args.self.now.line.now in
+    let x = row_state c.args.self.now.row.now in
     let cells = lent c.args.queue.now c.args.keys.now in
     let j = c.args.level in
     let way = c.in_ok-way.way in
