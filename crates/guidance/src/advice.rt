@@ -135,12 +135,7 @@ impl<'a, B: Bank> Place<'a, B> {
     fn lowest_unrested(&self) -> Option<u8>
         ensures { maybe result ≡ first (suc (line_in B.list self.now.line.now).chart.levels) (not_at_rest (line_in B.list self.now.line.now) (row_state self.now.row.now)) }
     {
-        for level in 1..=self.line.chart.levels() {
-            if !self.at_rest(level) {
-                return Some(level);
-            }
-        }
-        None
+        (1..=self.line.chart.levels()).find(|level| !self.at_rest(*level))
     }
 
     // Toward rest in the lowest level that is not at rest; home if there is none.

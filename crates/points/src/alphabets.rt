@@ -35,12 +35,7 @@ fn alphabet(chart: &Chart, component: u8) -> EventSet
 fn difference<B: Bank>(bank: &B, component: u8, alphabet: EventSet) -> Option<u8>
     ensures { Found 64 (λ e. alike ((slice_index_or (B.list bank.now) component nothing).knows e) (member alphabet.word e)) result }
 {
-    for event in 0..64 {
-        if bank.knows(component, event) != alphabet.contains(event) {
-            return Some(event);
-        }
-    }
-    None
+    (0..64).find(|event| bank.knows(component, *event) != alphabet.contains(*event))
 }
 
 impl<'a, B: Bank> Whole<'a, B> {
