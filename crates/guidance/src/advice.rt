@@ -39,25 +39,31 @@ fn step(way: Way, there: Guidance) -> Guidance
     }
 }
 
+// The event, if there is one.
+fn named(event: Option<u8>) -> Guidance
+    ensures { result ≡ named (maybe event) }
+{
+    match event {
+        Some(event) => Guidance::Event(event),
+        None => Guidance::NoEvent,
+    }
+}
+
 impl<'a, B: Bank> Place<'a, B> {
     // Whether the event is an answer.
     fn is_answer(&self, event: u8) -> bool
-        requires { event < (line_in B.list self.now.line.now).chart.events }
         ensures { result ≡ is_answer ((line_in B.list self.now.line.now).chart.kind event) }
     {
         self.line.chart.kind(event) == Some(Kind::Answer)
     }
 
     // The lowest answer that is possible in the level's walk.
-    fn lowest_answer(&self, level: u8) -> Guidance
-        ensures { result ≡ named (first (line_in B.list self.now.line.now).chart.events (answer_enabled (line_in B.list self.now.line.now) level (row_state self.now.row.now))) }
+    fn lowest_answer(&self, level: u8) -> Option<u8>
+        ensures { maybe result ≡ first (line_in B.list self.now.line.now).chart.events (answer_enabled (line_in B.list self.now.line.now) level (row_state self.now.row.now)) }
     {
-        for event in 0..self.line.chart.events() {
-            if self.is_answer(event) && self.line.possible_at(Part::Low(level), self.row, event) {
-                return Guidance::Event(event);
-            }
-        }
-        Guidance::NoEvent
+        (0..self.line.chart.events()).find(|event| {
+            self.is_answer(*event) && self.line.possible_at(Part::Low(level), self.row, *event)
+        })
     }
 
     // Toward any answer of the level.
@@ -74,7 +80,7 @@ impl<'a, B: Bank> Place<'a, B> {
         let way = self
             .line
             .nearest(Aim::AnyAnswer(level), self.row, queue, keys)?;
-        Ok(step(way, self.lowest_answer(level)))
+        Ok(step(way, named(self.lowest_answer(level))))
     }
 
     // Toward the answer of the level; with no word to it, toward any.

@@ -1,13 +1,22 @@
-use Rattle.std.proofs.Common.{rules, ◌≡◌, suc, ◌<◌, ◌≤◌, true, is_ok, IfOk, ℕ, ◌+◌, ◌-◌, ◌*◌, length, ◌/◌, ◌%◌, Bool, false, nat_eq, nat_lt, List, [], ◌∷◌, ◌++◌, slice_index_or, slice_set, bit_and, bit_or, Fits, w8, w32, w64, Bor, MutBor}
-use Rattle.model.specs.Charts.{IsLevel, is_answer}
-use Rattle.model.specs.Numbers.{first}
-use Rattle.hisc.specs.Points.{answer_enabled, at_rest, to_answer}
-use Rattle.hisc.specs.Guide.{named, any_answer, answer_or, by_kind, homeward, low_distance, not_at_rest, guide}
+use Rattle.std.proofs.Common.{◌-◌, ◌<◌, rules}
+use Rattle.std.proofs.iter.runs.Sources.{ranges, inclusive_listed}
 use Rattle.walks.specs.Given.{line_in}
 use Rattle.walks.specs.Rows.{row_state}
-use Rattle.guidance.specs.Ready.{Ready, Gives, lent, maybe, step_by}
+use Rattle.guidance.proofs.Lowest.{unrested-told}
 use Rattle.guidance.proofs.advice.Place.lowest_unrested.Goals as goal
 
--- src/advice.rt:135:5
 pub returns : goal.returns
-returns g c = ?
+returns g c =
+    let run = c.find.ensures.runs.0 in
+    unrested-told (line_in g.B.Bank.list c.args.self.now.line.now) (row_state c.args.self.now.row.now) c.find.result
+    (λ j e. (
+      search (rules, ranges),
+      search (rules, ranges),
+      search (rules, ranges),
+      λ i some lt.
+          let at = ((inclusive_listed run run.seen).4 (search rules)).0.3 (i - 1) (search (rules, ranges)) in search (rules, ranges, at),
+    ))
+    (λ e i some le.
+    let within : i - 1 < run.len = search (rules, ranges) in
+    let at = ((inclusive_listed run run.seen).4 (search rules)).0.3 (i - 1) within in
+    search (rules, ranges, at))

@@ -1,5 +1,5 @@
 use Rattle.std.proofs.Common.{ap, ◌∙◌}
-use Rattle.hisc.specs.Guide.{any_answer}
+use Rattle.hisc.specs.Guide.{named, any_answer}
 use Rattle.hisc.specs.declared.guide.Guidance.{Guidance}
 use Rattle.walks.specs.Rows.{row_state}
 use Rattle.walks.specs.declared.aim.Aim.TheVariants.{AnyAnswer}
@@ -18,4 +18,4 @@ returns g c =
     let j = c.args.level in
     let way = c.in_ok-way.way in
     gives-ok l x cells (λ l x. any_answer l j x) c.step.result
-    (c.step.ensures ∙ ap (λ (g : Guidance). step_by way g) c.lowest_answer.ensures ∙ any_step l x j way (nearest-is l (AnyAnswer j) x cells way c.in_ok-way.ensures.value))
+    (c.step.ensures ∙ ap (λ (g : Guidance). step_by way g) (c.named.ensures ∙ ap named c.lowest_answer.ensures) ∙ any_step l x j way (nearest-is l (AnyAnswer j) x cells way c.in_ok-way.ensures.value))
