@@ -51,6 +51,7 @@ fn named(event: Option<u8>) -> Guidance
 
 impl<'a, B: Bank> Place<'a, B> {
     // Whether the event is an answer.
+    #[tactic(auto, using(charts::proofs::Rules::beyond))]
     fn is_answer(&self, event: u8) -> bool
         ensures { result ≡ is_answer ((line_in B.list self.now.line.now).chart.kind event) }
     {
