@@ -63,18 +63,23 @@ module _ (l : Line) (x : State) where
   falls-back m n j a same way r s =
       gives-on l x m n (λ l x. any_answer l j x) (λ l x. answer_or l j a x (low_distance l j (to_answer l j a) x)) r s same (answer-none j a way)
 
-  pub answer-here : (j a : ℕ) → Here ≡ way_to l (ToAnswer j a) x → Event a ≡ answer_or l j a x (low_distance l j (to_answer l j a) x)
+  answer-here : (j a : ℕ) → Here ≡ way_to l (ToAnswer j a) x → Event a ≡ answer_or l j a x (low_distance l j (to_answer l j a) x)
   unfolding low_distance
   answer-here j a h =
       let o = distance (to_answer l j a) (size l (low l j)) x in
       sym (ap (answer_or l j a x) (way-here (to_answer l j a) x o h))
 
-  pub answer-by : (j a e k : ℕ) → By e k ≡ way_to l (ToAnswer j a) x → Event e ≡ answer_or l j a x (low_distance l j (to_answer l j a) x)
+  answer-by : (j a e k : ℕ) → By e k ≡ way_to l (ToAnswer j a) x → Event e ≡ answer_or l j a x (low_distance l j (to_answer l j a) x)
   unfolding low_distance
   answer-by j a e k h =
       let o = distance (to_answer l j a) (size l (low l j)) x in
       let p = way_by (to_answer l j a) (size l (low l j)) x o e k refl h in
       sym (ap (answer_or l j a x) p.far ∙ ap named p.event)
+
+  pub answer-step : (j a : ℕ) (w : Way) → w ≡ way_to l (ToAnswer j a) x → (w ≡ Unreachable → ⊥) → step_by w (Event a) ≡ answer_or l j a x (low_distance l j (to_answer l j a) x)
+  answer-step j a Unreachable h ne = absurd (ne refl)
+  answer-step j a Here h ne = answer-here j a h
+  answer-step j a (By e k) h ne = answer-by j a e k h
 
   -- toward rest in level j
   pub rest-step : (j : ℕ) (w : Way) → w ≡ way_to l (AtRest j) x → some j ≡ first (suc l.chart.levels) (not_at_rest l x) →

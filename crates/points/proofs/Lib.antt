@@ -1,3 +1,4 @@
+pub mod Known
 pub mod Listing
 pub mod FirstPoint
 pub mod Meeting

@@ -4,3 +4,4 @@ pub mod Losses
 pub mod Lowest
 pub mod Markings
 pub mod Tried
+pub mod Whole

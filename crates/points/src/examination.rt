@@ -1,39 +1,34 @@
 // The whole examination.
-ghost use Rattle.std.specs.Prelude.{ℕ, ◌≤◌, length};
-ghost use Rattle.model.specs.Charts.{IsLevel};
-ghost use Rattle.hisc.specs.Lines.{WellMade, high, low};
-ghost use Rattle.hisc.specs.Sizes.{size, largest_walk};
+ghost use Rattle.std.specs.Prelude.{◌≤◌, min, length};
+ghost use Rattle.hisc.specs.Sizes.{largest_walk};
 ghost use Rattle.hisc.specs.Verdict.{Verdict, tests};
-ghost use Rattle.points.specs.Examined.{cells_in, fault_in};
 ghost use Rattle.walks.specs.Given.{line_given};
+ghost use Rattle.points.specs.Examined.{cells_in, fault_in};
 ghost use Rattle.points.specs.Tried.{TriedAll};
+ghost use Rattle.points.specs.Whole.{line_whole};
 
-use crate::alphabets::alphabets_known;
-use crate::levels::{command_pairs, high_points, low_points};
+use crate::whole::Whole;
 use generators::bank::Bank;
 use measure::sizes::WalkSizes;
 use model::fault::{Fault, Layer};
 use walks::line::Line;
 
-// Tries the ten points in their order.
-fn ten_points<B: Bank>(
-    line: &Line<B>,
-    first: &mut [u32],
-    second: &mut [u32],
-    third: &mut [u32],
-) -> Result<(), Fault>
-    requires made { WellMade (line_given B.list line.now) }
-    requires lows { (j : ℕ) → IsLevel (line_given B.list line.now).chart j → size (line_given B.list line.now) (low (line_given B.list line.now) j) ≤ 4096 }
-    requires top { size (line_given B.list line.now) (high (line_given B.list line.now)) ≤ 4096 }
-    requires first { largest_walk (line_given B.list line.now) ≤ length first.old }
-    requires second { largest_walk (line_given B.list line.now) ≤ length second.old }
-    requires third { largest_walk (line_given B.list line.now) ≤ length third.old }
-    ensures { TriedAll (line_given B.list line.now) (tests (line_given B.list line.now)) result }
-{
-    alphabets_known(line)?;
-    command_pairs(line, first, second)?;
-    low_points(line, first, second, third)?;
-    high_points(line, first, second, third)
+impl<'a, B: Bank> Whole<'a, B> {
+    // Tries the ten points in their order.
+    fn ten_points(
+        &self,
+        first: &mut [u32],
+        second: &mut [u32],
+        third: &mut [u32],
+    ) -> Result<(), Fault>
+        requires { largest_walk (line_whole self.now) ≤ min (length first.old) (min (length second.old) (length third.old)) }
+        ensures { TriedAll (line_whole self.now) (tests (line_whole self.now)) result }
+    {
+        self.alphabets_known()?;
+        self.command_pairs(first, second)?;
+        self.low_points(first, second, third)?;
+        self.top_points(first, second, third)
+    }
 }
 
 // Examines the line of the chart and the bank. The work cells may hold anything, and are left with anything.
@@ -52,5 +47,5 @@ pub fn examine<B: Bank>(
             layer: Layer::Check,
         });
     }
-    ten_points(line, first, second, third)
+    Whole { line }.ten_points(first, second, third)
 }
