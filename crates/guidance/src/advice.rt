@@ -50,7 +50,7 @@ fn named(event: Option<u8>) -> Guidance
 }
 
 impl<'a, B: Bank> Place<'a, B> {
-    // Whether the event is an answer.
+    // Whether the event is an answer. The points ask it too, of an offer; neither crate sees the other.
     #[tactic(auto, using(charts::proofs::Rules::beyond))]
     fn is_answer(&self, event: u8) -> bool
         ensures { result ≡ is_answer ((line_given B.list self.now.line.now).chart.kind event) }

@@ -8,5 +8,6 @@ pub mod Judging
 pub mod Searching
 pub mod Leasts
 pub mod Losing
+pub mod Requesting
 pub mod Order
 pub mod Verdicts

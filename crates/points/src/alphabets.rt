@@ -43,7 +43,7 @@ impl<'a, B: Bank> Whole<'a, B> {
     pub(crate) fn alphabets_known(&self) -> Result<(), Fault>
         ensures { TriedAll (line_whole self.now) (listed (components (line_whole self.now)) (λ c. alphabet_known c ∷ [])) result }
     {
-        for component in 0..2 + 3 * self.line.chart.levels() {
+        for component in 0..self.line.bank.len() {
             let alphabet = alphabet(&self.line.chart, component);
             if let Some(event) = difference(&self.line.bank, component, alphabet) {
                 return Err(Fault::Alphabet {
