@@ -180,25 +180,11 @@ impl<B: Bank> Tour<B> {
         }
     }
 
-    fn guide(&mut self) -> Result<Guidance, Fault> {
-        let Cells {
-            first,
-            second,
-            third,
-            ..
-        } = &mut self.cells;
-        self.running.guide(&mut Lent {
-            first,
-            second,
-            third,
-        })
-    }
-
     // Asks the guide and offers what it names, until it says home, which it must say just where all components are marked.
     fn follow(&mut self) -> Result<(), Difference> {
         for _ in 0..=self.tally.bound {
             let rests = self.rests();
-            match self.guide() {
+            match ask(&self.running, &mut self.cells) {
                 Ok(Guidance::Event(event)) if !rests => {
                     self.way.events.push(event)?;
                     self.take(event)?;
@@ -243,37 +229,6 @@ impl<B: Bank> Tour<B> {
         self.look()
     }
 
-    // The guide refuses a slice that is a cell short, whichever of the three it is.
-    fn refuse_short_cells(&mut self, trip: u8) -> Result<(), Difference> {
-        let Cells {
-            first,
-            second,
-            third,
-            short,
-        } = &mut self.cells;
-        let reply = match trip % 3 {
-            0 => self.running.guide(&mut Lent {
-                first: short,
-                second,
-                third,
-            }),
-            1 => self.running.guide(&mut Lent {
-                first,
-                second: short,
-                third,
-            }),
-            _ => self.running.guide(&mut Lent {
-                first,
-                second,
-                third: short,
-            }),
-        };
-        match reply {
-            Err(Fault::WorkCells { layer: Layer::Run }) => Ok(()),
-            _ => Err(Difference::ShortCells),
-        }
-    }
-
     // Wanders, on every third trip begins again and wanders once more, asks what is refused or changes nothing, and goes home.
     pub fn trip(&mut self, trip: u8) -> Result<(), Difference> {
         self.way.events.clear();
@@ -285,10 +240,25 @@ impl<B: Bank> Tour<B> {
         self.offer(255)?;
         compare_possible(&self.listed()?, &self.running)?;
         refuse_short_slice(&self.running)?;
-        self.refuse_short_cells(trip)?;
+        refuse_short_cells(&self.running, &mut self.cells, trip)?;
         self.look()?;
         self.home(trip)
     }
+}
+
+// What the guide answers with cells enough.
+fn ask<B: Bank>(running: &Running<B>, cells: &mut Cells) -> Result<Guidance, Fault> {
+    let Cells {
+        first,
+        second,
+        third,
+        ..
+    } = cells;
+    running.guide(&mut Lent {
+        first,
+        second,
+        third,
+    })
 }
 
 // Goes home by one call. Tells how many offers that took.
@@ -306,4 +276,39 @@ fn go_home<B: Bank>(running: &mut Running<B>, cells: &mut Cells) -> Result<u64, 
             third,
         })
         .map_err(|_| Difference::Guide)
+}
+
+// The guide refuses a slice that is a cell short, whichever of the three it is.
+fn refuse_short_cells<B: Bank>(
+    running: &Running<B>,
+    cells: &mut Cells,
+    trip: u8,
+) -> Result<(), Difference> {
+    let Cells {
+        first,
+        second,
+        third,
+        short,
+    } = cells;
+    let reply = match trip % 3 {
+        0 => running.guide(&mut Lent {
+            first: short,
+            second,
+            third,
+        }),
+        1 => running.guide(&mut Lent {
+            first,
+            second: short,
+            third,
+        }),
+        _ => running.guide(&mut Lent {
+            first,
+            second,
+            third: short,
+        }),
+    };
+    match reply {
+        Err(Fault::WorkCells { layer: Layer::Run }) => Ok(()),
+        _ => Err(Difference::ShortCells),
+    }
 }
