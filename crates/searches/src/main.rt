@@ -2,7 +2,6 @@
 #![tactic(auto)]
 
 use anyhow::Context;
-use charts::chart::Chart;
 use generators::bank::Bank;
 use linefile::bank::FileBank;
 use linefile::chart::read_chart;
@@ -11,10 +10,10 @@ use std::alloc::{AllocError, Global};
 use std::time::Instant;
 use std::{env, fs};
 use walks::aim::Aim;
+use walks::line::Line;
 use walks::part::Part;
 use walks::refusal::Refusal;
 use walks::row::Row;
-use walks::searches::{coreach, nearest, reach};
 use walks::walk::Walk;
 
 // The most states that a walk has.
@@ -70,28 +69,23 @@ impl Cells {
 }
 
 // Reaches the states of the level's walk, those of them that lead to all marked, and the way there from the initial one.
-fn search_walk<B: Bank>(
-    chart: &Chart,
-    bank: &B,
-    level: u8,
-    cells: &mut Cells,
-) -> Result<Found, Refusal> {
+fn search_walk<B: Bank>(line: &Line<B>, level: u8, cells: &mut Cells) -> Result<Found, Refusal> {
     let (part, aim) = match level {
         0 => (Part::High, Aim::HighMarked),
         _ => (Part::Low(level), Aim::LowMarked(level)),
     };
-    let size = Walk::of(chart, bank, part)?.size() as usize;
-    reach(chart, bank, part, &mut cells.stack, &mut cells.flags)?;
+    let size = Walk::of(line, part)?.size() as usize;
+    line.reach(part, &mut cells.stack, &mut cells.flags)?;
     let reached = cells.flagged(size);
     let Cells {
         flags,
         stack,
         places,
     } = cells;
-    coreach(chart, bank, aim, flags, stack, places)?;
+    line.coreach(aim, flags, stack, places)?;
     let leading = cells.flagged(size);
-    let from = Row::initial(bank);
-    let steps = match nearest(chart, bank, aim, &from, &mut cells.stack, &mut cells.places)? {
+    let from = Row::initial(&line.bank);
+    let steps = match line.nearest(aim, &from, &mut cells.stack, &mut cells.places)? {
         Way::Unreachable => None,
         Way::Here => Some(0),
         Way::By { distance, .. } => Some(distance),
@@ -112,8 +106,9 @@ fn search_line(file: &[u8], cells: &mut Cells) -> anyhow::Result<Found> {
         leading: 0,
         steps: Some(0),
     };
-    for level in 0..=chart.levels() {
-        let found = search_walk(&chart, &bank, level, cells)
+    let line = Line { chart, bank };
+    for level in 0..=line.chart.levels() {
+        let found = search_walk(&line, level, cells)
             .ok()
             .context("a walk is too large")?;
         all = all.with(found);
