@@ -3,7 +3,7 @@
 // Each function gives what the guide's rule gives, or the refusal of a search that it takes. No search refuses where every walk can be searched from the
 // row's states.
 ghost use Rattle.std.specs.Prelude.{◌≡◌, suc, ◌<◌, ◌≤◌, true, is_ok, IfOk};
-ghost use Rattle.model.specs.Charts.{IsLevel, is_answer};
+ghost use Rattle.model.specs.Charts.{IsLevel};
 ghost use Rattle.model.specs.Numbers.{first};
 ghost use Rattle.hisc.specs.Points.{answer_enabled, at_rest, to_answer};
 ghost use Rattle.hisc.specs.Guide.{named, any_answer, answer_or, by_kind, homeward, low_distance, not_at_rest, guide};
@@ -50,20 +50,13 @@ fn named(event: Option<u8>) -> Guidance
 }
 
 impl<'a, B: Bank> Place<'a, B> {
-    // Whether the event is an answer. The points ask it too, of an offer; neither crate sees the other.
-    #[tactic(auto, using(charts::proofs::Rules::beyond))]
-    fn is_answer(&self, event: u8) -> bool
-        ensures { result ≡ is_answer ((line_given B.list self.now.line.now).chart.kind event) }
-    {
-        self.line.chart.kind(event) == Some(Kind::Answer)
-    }
-
     // The lowest answer that is possible in the level's walk.
     fn lowest_answer(&self, level: u8) -> Option<u8>
         ensures { maybe result ≡ first (line_given B.list self.now.line.now).chart.events (answer_enabled (line_given B.list self.now.line.now) level (row_state self.now.row.now)) }
     {
         (0..self.line.chart.events()).find(|event| {
-            self.is_answer(*event) && self.line.possible_at(Part::Low(level), self.row, *event)
+            self.line.chart.is_answer(*event)
+                && self.line.possible_at(Part::Low(level), self.row, *event)
         })
     }
 

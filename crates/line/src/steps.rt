@@ -1,6 +1,5 @@
 // The rows of a running line.
-ghost use Rattle.std.specs.Prelude.{◌≡◌, ◌+◌, ◌*◌, ◌≤◌, slice_index_or};
-ghost use Rattle.charts.specs.Meanings.{chart_of};
+ghost use Rattle.std.specs.Prelude.{◌≡◌, slice_index_or};
 ghost use Rattle.hisc.specs.Lines.{initial};
 ghost use Rattle.line.specs.Checked.{Runs};
 ghost use Rattle.walks.specs.Given.{line_given};
@@ -10,18 +9,10 @@ ghost use Rattle.walks.specs.Rows.{row_state};
 
 use crate::passed::Passed;
 use crate::running::Running;
-use charts::chart::Chart;
 use generators::bank::Bank;
 use model::fault::Fault;
 use model::next::Next;
 use walks::row::Row;
-
-// How many components a line with this chart has.
-fn component_count(chart: &Chart) -> u8
-    ensures { (result ≡ 2 + 3 * (chart_of chart.now).levels) × (result ≤ 26) }
-{
-    2 + 3 * chart.levels()
-}
 
 // The component's state after the event, unless it knows and forbids it.
 fn follow<B: Bank>(bank: &B, component: u8, state: u16, event: u8) -> Option<u16>
@@ -54,7 +45,7 @@ impl<B: Bank> Running<B> {
             return Err(Fault::EventNumber { event });
         }
         let mut states = self.row.states;
-        let count = usize::from(component_count(&line.chart));
+        let count = usize::from(line.chart.components());
         for (component, state) in states[..count].iter_mut().enumerate() {
             let component = component as u8;
             let Some(moved) = follow(&line.bank, component, *state, event) else {

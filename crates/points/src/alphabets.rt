@@ -10,10 +10,10 @@ ghost use Rattle.points.specs.Lowest.{alike, Found};
 ghost use Rattle.points.specs.Tried.{TriedAll};
 ghost use Rattle.points.specs.Whole.{line_whole};
 
-use crate::numbers::level_of;
 use crate::whole::Whole;
 use charts::chart::Chart;
 use generators::bank::Bank;
+use model::component::{is_interface, level_of};
 use model::fault::Fault;
 use model::set::EventSet;
 
@@ -24,7 +24,7 @@ fn alphabet(chart: &Chart, component: u8) -> EventSet
 {
     if component < 2 {
         chart.high_alphabet()
-    } else if component % 3 == 1 {
+    } else if is_interface(component) {
         chart.interface_alphabet(level_of(component))
     } else {
         chart.level_alphabet(level_of(component))

@@ -1,6 +1,6 @@
 // The numbers of components.
 ghost use Rattle.std.specs.Prelude.{◌≡◌, ◌≤◌};
-ghost use Rattle.hisc.specs.Lines.{plant, supervisor, interface, level_of};
+ghost use Rattle.hisc.specs.Lines.{plant, supervisor, interface};
 
 pub(crate) const HIGH_PLANT: u8 = 0;
 
@@ -25,12 +25,4 @@ pub(crate) fn interface(level: u8) -> u8
     ensures { result ≡ interface level }
 {
     3 * level + 1
-}
-
-// The level of a component, 0 for the high one.
-pub(crate) fn level_of(component: u8) -> u8
-    requires { component ≤ 254 }
-    ensures { result ≡ level_of component }
-{
-    (component + 1) / 3
 }

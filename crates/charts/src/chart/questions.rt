@@ -1,6 +1,6 @@
 // What a chart answers.
 ghost use Rattle.std.specs.Prelude.{◌≡◌, ℕ, ◌≤◌};
-ghost use Rattle.model.specs.Charts.{WellCharted, in_high, in_level, in_interface};
+ghost use Rattle.model.specs.Charts.{WellCharted, is_request, is_answer, in_high, in_level, in_interface};
 ghost use Rattle.model.specs.Components.{components};
 ghost use Rattle.model.specs.Sets.{member};
 ghost use Rattle.charts.specs.Alphabets.{in_requests, in_answers, in_low, kind_at, owner_at};
@@ -49,6 +49,20 @@ impl Chart {
         } else {
             Some(Kind::Low)
         }
+    }
+
+    #[tactic(auto, using(crate::proofs::Rules::beyond))]
+    pub fn is_request(&self, event: u8) -> bool
+        ensures { result ≡ is_request ((chart_of self.now).kind event) }
+    {
+        self.kind(event) == Some(Kind::Request)
+    }
+
+    #[tactic(auto, using(crate::proofs::Rules::beyond))]
+    pub fn is_answer(&self, event: u8) -> bool
+        ensures { result ≡ is_answer ((chart_of self.now).kind event) }
+    {
+        self.kind(event) == Some(Kind::Answer)
     }
 
     // The level that owns the event; 0 is the high one.
