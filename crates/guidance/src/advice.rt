@@ -49,6 +49,7 @@ fn named(event: Option<u8>) -> Guidance
     }
 }
 
+// The two slices of cells stay parameters: a struct of them would have to promise their lengths at every call.
 impl<'a, B: Bank> Place<'a, B> {
     // The lowest answer that is possible in the level's walk.
     fn lowest_answer(&self, level: u8) -> Option<u8>

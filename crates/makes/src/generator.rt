@@ -68,6 +68,7 @@ fn table_next(count: u8, letters: &[u8], targets: &[u8], state: u16, event: u8) 
     }
 }
 
+// Beside `table_knows`: each is its own definition, and one with the letters as a parameter would need both as cases.
 fn counter_knows(letters: &[u8], event: u8) -> bool
     ensures { result ≡ counter_knows letters.now event }
 {
