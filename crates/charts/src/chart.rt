@@ -12,7 +12,7 @@ mod rows;
 // The events of a chart by what they are.
 #[derive(Clone, Copy)]
 struct Sets {
-    // set 0 has the H events, set j the events that level j owns
+    // set 0 has the H events, set j the events that level j owns, and those beyond the last level none: fixed memory, no heap
     owned: [EventSet; 9],
     requests: EventSet,
     answers: EventSet,

@@ -29,3 +29,34 @@ pub trait Bank {
     fn next(&self, component: u8, state: u16, event: u8) -> Next
         ensures { result ≡ (slice_index_or (list self.now) component nothing).next state event };
 }
+
+// A bank that is lent is a bank too.
+impl<'a, B: Bank> Bank for &'a B {
+    ghost list = { λ b. B.Bank.list b.now };
+
+    ghost formed = { λ b. B.Bank.formed b.now };
+
+    fn len(&self) -> u8 {
+        (**self).len()
+    }
+
+    fn count(&self, component: u8) -> u16 {
+        (**self).count(component)
+    }
+
+    fn initial(&self, component: u8) -> u16 {
+        (**self).initial(component)
+    }
+
+    fn knows(&self, component: u8, event: u8) -> bool {
+        (**self).knows(component, event)
+    }
+
+    fn marked(&self, component: u8, state: u16) -> bool {
+        (**self).marked(component, state)
+    }
+
+    fn next(&self, component: u8, state: u16, event: u8) -> Next {
+        (**self).next(component, state, event)
+    }
+}

@@ -111,6 +111,6 @@ impl<B: Bank> Running<B> {
             };
             self.offer(event)?;
         }
-        unreachable()
+        unreachable!()
     }
 }

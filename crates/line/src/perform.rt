@@ -21,6 +21,7 @@ impl<B: Bank> Running<B> {
         ensures answered { Answered self.old self.new (call_of (length out.old) (lent cells.old) call) (reply_of out.new result) }
         ensures lengths { lent cells.new ≡ lent cells.old }
     {
+        // a match, since calls are values that a queue holds
         Ok(match call {
             Call::Offer(event) => {
                 self.offer(event)?;

@@ -1,6 +1,7 @@
 // The work cells that are lent to the check and the guide.
 use std::alloc::{AllocError, Global};
 
+// A function that lends the three as one struct is not covered by the borrow checker, so each call takes them apart.
 // Three slices of just the size that is asked for, with other contents at first, and one that is a cell short.
 #[derive(Drop)]
 pub struct Cells {

@@ -24,9 +24,9 @@ fn untouched(bytes: &[u8], from: usize) -> bool {
 // Compares the list that the running line writes with the events that should be in it, and looks at the bytes that it leaves.
 pub fn compare_possible<B: Bank>(listed: &[u8], running: &Running<B>) -> Result<(), Difference> {
     let mut out = [UNTOUCHED; 70];
-    let Ok(count) = running.possible(&mut out) else {
-        return Err(Difference::Possible);
-    };
+    let count = running
+        .possible(&mut out)
+        .map_err(|_| Difference::Possible)?;
     let each_once = listed.iter().all(|event| occurrences(&out, *event) == 1);
     if count == listed.len() && each_once && untouched(&out, count) {
         Ok(())

@@ -9,7 +9,8 @@ use measure::sizes::WalkSizes;
 // The ways home of so many trips are told, event by event.
 const SHOWN: u8 = 3;
 
-// The trials' own count, against which the line's is held: the most offers that lead home, with n low levels, H states of the high walk and W of the largest low walk, ((n + 1)(H - 1) + n) W + n (W - 1).
+// The trials' own count, against which the line's is held: the most offers that lead home, with n low levels, H states of the high walk and W of the
+// largest low walk, ((n + 1)(H - 1) + n) W + n (W - 1).
 fn bound(levels: u8, sizes: WalkSizes) -> u64 {
     let n = u64::from(levels);
     let high = u64::from(sizes.high.saturating_sub(1));

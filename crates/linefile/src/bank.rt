@@ -29,7 +29,7 @@ use model::set::EventSet;
 #[derive(Clone, Copy)]
 pub struct FileBank<'a> {
     chart: Chart,
-    // the body of component c stands at c + 1
+    // the body of component c stands at c + 1: fixed memory, no heap
     bodies: [&'a [u8]; 27],
 }
 

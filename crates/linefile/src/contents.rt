@@ -10,7 +10,8 @@ use charts::chart::Chart;
 use charts::header::Header;
 use model::fault::Fault;
 
-// A line file whose contents are right, its sizes, and the bodies that its rows name: row 0 is the event body, row c + 1 component c.
+// A line file whose contents are right, its sizes, and the bodies that its rows name: row 0 is the event body, row c + 1 component c. At most 27,
+// in fixed memory, since the library has no heap.
 #[derive(Clone, Copy)]
 pub(crate) struct Contents<'a> {
     pub(crate) file: &'a [u8],
@@ -72,7 +73,7 @@ impl<'a> Laid<'a> {
         let mut bodies: [&'a [u8]; 27] = [&[]; 27];
         let mut end = contents_end(header);
         let mut left = &file[3..end];
-        // a loop over the 27 bodies would need a way out where the rows end
+        // a rule of the project: rows are taken apart by slice patterns, so the rest is carried along and the row counted
         let mut row = 0usize;
         while let [start_high, start_low, length_high, length_low, rest @ ..] = left {
             let start = number(*start_high, *start_low);

@@ -112,6 +112,7 @@ fn stock_next(columns: [u8; 4], state: u16, event: u8) -> Next
     }
 }
 
+// A rule of the project: the makes are an enum, so each question is a match on it.
 impl<'a> Generator for Make<'a> {
     ghost meaning = { λ m. gen_of (shape m) };
 

@@ -31,7 +31,7 @@ impl<'a, B: Bank> Whole<'a, B> {
     }
 }
 
-// Examines the line of the chart and the bank. The work cells may hold anything, and are left with anything.
+// Examines the line, in three slices as they are lent. The work cells may hold anything, and are left with anything.
 pub fn examine<B: Bank>(
     line: &Line<B>,
     first: &mut [u32],

@@ -80,11 +80,11 @@ impl Sets {
         ensures { RowsRead header.levels header.events rows.now origin result }
     {
         let mut sets = Sets::EMPTY;
-        // rows are taken apart by slice patterns, so the rest is carried along
+        // a rule of the project: rows are taken apart by slice patterns, so the rest is carried along
         let mut left = rows;
         for event in 0..header.events {
             let [kind, owner, control, rest @ ..] = left else {
-                unreachable()
+                unreachable!()
             };
             let place = u32::from(origin) + 3 * u32::from(event);
             let row = Row::read(header.levels, *kind, *owner, *control, place)?;
