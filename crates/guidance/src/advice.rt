@@ -123,6 +123,7 @@ impl<'a, B: Bank> Place<'a, B> {
         requires { (1 ≤ level) × (level ≤ 8) }
         ensures { result ≡ at_rest (line_given B.list self.now.line.now) level (row_state self.now.row.now) }
     {
+        // the only place of guidance with such numbers
         let plant = 3 * level - 1;
         let supervisor = 3 * level;
         self.line.bank.marked(plant, self.row.state(plant))

@@ -41,7 +41,7 @@ fn table_marked(count: u8, marks: &[u8], state: u16) -> bool
     state < table_count(count) && matches!(byte_or(marks, usize::from(state), 0) as char, 'm')
 }
 
-// The target at the state's row and the event's column.
+// The target at the state's row and the event's column, 255 for no move: a rule of the project, it is what the file holds.
 fn target(letters: &[u8], targets: &[u8], state: u16, event: u8) -> u8
     ensures { result ≡ table_target letters.now targets.now state event }
 {

@@ -48,10 +48,9 @@ fn a_counter_stops_at_its_ends(rt: HostRuntime) -> Result<(), Fail> {
 }
 
 fn place(body: &[u8]) -> u32 {
-    match Make::read_at(body, 4, Some(2), 73) {
-        Err(fault) => fault.fields().place,
-        Ok(_) => 0,
-    }
+    Make::read_at(body, 4, Some(2), 73)
+        .err()
+        .map_or(0, |fault| fault.fields().place)
 }
 
 #[test]
