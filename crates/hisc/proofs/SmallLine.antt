@@ -9,7 +9,6 @@ use Rattle.model.specs.declared.next.Next.{Next}
 use Rattle.model.specs.declared.next.Next.TheVariants.{Foreign, Forbidden, To}
 use Rattle.model.specs.declared.fault.Fault.{Fault}
 use Rattle.model.specs.declared.fault.Fault.TheVariants.{Alphabet, Point}
-use Rattle.model.specs.declared.fault.Point.TheVariants as point
 use Rattle.model.proofs.Finds.{never, all-at}
 use Rattle.hisc.specs.Lines.{Line, WellMade, high, low, possible, marked}
 use Rattle.hisc.specs.Sizes.{size, code, largest_low, enough}
@@ -268,7 +267,7 @@ after_six = low_nonblocking 1 ∷ low_controllable 1 ∷ high_tests
 start-made : WellMade unmarked_start_line
 start-made = made top-formed plant-formed (formed 2 (1 ∷ 2 ∷ []) (1 ∷ []) (move 0 1 1 ∷ move 1 2 0 ∷ []) refl)
 
-start-fault : FirstFault unmarked_start_line (Point point.CommandPair 1 0 None)
+start-fault : FirstFault unmarked_start_line (Point 2 1 0 None)
 unfolding possible marked size code
 start-fault =
     first-failing unmarked_start_line start-made high_words low_words alone_words alphabets (command_pair 1)
@@ -280,7 +279,7 @@ lost-made = made top-formed (formed 3 (1 ∷ 2 ∷ 3 ∷ []) (0 ∷ []) (move 0 
 abbrev pub lost_words : ℕ → List (List ℕ)
 lost_words j = [] ∷ (1 ∷ []) ∷ []
 
-lost-fault : FirstFault lost_answer_line (Point point.AnswersReachable 1 4 (Some 2))
+lost-fault : FirstFault lost_answer_line (Point 5 1 4 (Some 2))
 unfolding possible marked size code
 lost-fault =
     first-failing lost_answer_line lost-made high_words lost_words alone_words (alphabets ++ (command_pair 1 ∷ requests_accepted 1 ∷ [])) (answers_reachable 1) after_five 4 (Some 2) refl
@@ -289,7 +288,7 @@ lost-fault =
 unmarked-made : WellMade unmarked_plant_line
 unmarked-made = made top-formed (formed 3 (1 ∷ 2 ∷ 3 ∷ []) [] (move 0 1 1 ∷ move 1 3 2 ∷ move 2 2 0 ∷ []) refl) between-formed
 
-unmarked-fault : FirstFault unmarked_plant_line (Point point.RestReachable 1 0 None)
+unmarked-fault : FirstFault unmarked_plant_line (Point 6 1 0 None)
 unfolding possible marked size code
 unmarked-fault =
     first-failing unmarked_plant_line unmarked-made high_words low_words alone_words (alphabets ++ to_six) (rest_reachable 1) after_six 0 None refl
@@ -301,7 +300,7 @@ rest-made = made top-formed (formed 6 (1 ∷ 2 ∷ 3 ∷ []) (0 ∷ []) (move 0 
 rest-words : ℕ → List (List ℕ)
 rest-words j = [] ∷ (1 ∷ []) ∷ (1 ∷ 3 ∷ []) ∷ (1 ∷ 3 ∷ 2 ∷ []) ∷ (1 ∷ 3 ∷ 2 ∷ 1 ∷ []) ∷ (1 ∷ 3 ∷ 2 ∷ 1 ∷ 3 ∷ []) ∷ []
 
-rest-fault : FirstFault rest_by_request_line (Point point.RestReachable 1 3 None)
+rest-fault : FirstFault rest_by_request_line (Point 6 1 3 None)
 unfolding possible marked size code rest-words
 rest-fault =
     first-failing rest_by_request_line rest-made high_words rest-words alone_words (alphabets ++ to_six) (rest_reachable 1) after_six 3 None refl

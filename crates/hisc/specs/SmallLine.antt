@@ -8,7 +8,6 @@ use Rattle.model.specs.declared.next.Next.TheVariants.{Foreign, Forbidden, To}
 use Rattle.model.specs.declared.fault.Layer.TheVariants.{Check, Run}
 use Rattle.model.specs.declared.fault.Fault.{Fault}
 use Rattle.model.specs.declared.fault.Fault.TheVariants.{Components, WalkSize, Alphabet, Point, WorkCells, EventNumber, Refused, PossibleSlice}
-use Rattle.model.specs.declared.fault.Point.TheVariants as point
 use Rattle.hisc.specs.Lines.{Line, line_of, WellMade, interface, components, high, low, initial}
 use Rattle.hisc.specs.Sizes.{Cells, size, bound}
 use Rattle.hisc.specs.Points.{is_marked, LowNonblocking, Points}
@@ -176,10 +175,10 @@ pub record RefusedWith (l : Line) (f : Fault) : Type 0 where
   pub answer : Verdict l 5 (cells_of 12) (Some f)
 
 pub record LinesRefused : Type 0 where
-  pub unmarked_start : RefusedWith unmarked_start_line (Point point.CommandPair 1 0 None)
-  pub lost_answer : RefusedWith lost_answer_line (Point point.AnswersReachable 1 4 (Some 2))
-  pub unmarked_plant : RefusedWith unmarked_plant_line (Point point.RestReachable 1 0 None)
-  pub rest_by_request : RefusedWith rest_by_request_line (Point point.RestReachable 1 3 None)
+  pub unmarked_start : RefusedWith unmarked_start_line (Point 2 1 0 None)
+  pub lost_answer : RefusedWith lost_answer_line (Point 5 1 4 (Some 2))
+  pub unmarked_plant : RefusedWith unmarked_plant_line (Point 6 1 0 None)
+  pub rest_by_request : RefusedWith rest_by_request_line (Point 6 1 3 None)
   -- and not for want of a word to all three marked
   pub rest_by_request_nonblocking : LowNonblocking rest_by_request_line 1
   pub wrong_answer : RefusedWith wrong_answer_line (Alphabet 1 4 2)

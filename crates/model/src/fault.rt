@@ -1,6 +1,6 @@
 // Every refusal of the library, and the seven fields by which it is reported.
 ghost use Rattle.std.specs.Prelude.{◌≡◌, Some};
-ghost use Rattle.model.specs.Faults.{fields, fields_of, letter_of, text_of};
+ghost use Rattle.model.specs.Faults.{fields, fields_of, letter_of, number_of, text_of};
 ghost use Rattle.model.specs.declared.fault.Layer.TheVariants.{Check as CheckLayer};
 
 use std::fmt;
@@ -51,6 +51,15 @@ pub enum Point {
     HighControllable = 10,
 }
 
+// The number by which the point is told.
+impl From<Point> for u8 {
+    ghost from_gives = { λ point number. number ≡ number_of point };
+
+    fn from(point: Point) -> u8 {
+        point as u8
+    }
+}
+
 #[derive(Clone, Copy, PartialEq, Eq, Debug)]
 pub enum Fault {
     // the file is too long or too short, or its first three bytes are wrong
@@ -90,9 +99,10 @@ pub enum Fault {
         component: u8,
         event: u8,
     },
-    // points 2 to 10: the point fails at the walk's state with this code
+    // points 2 to 10: the point with this number (`Point` names them) fails at the walk's state with this code. A number and no `Point`, since faults are
+    // public and their fields are asked of every number.
     Point {
-        point: Point,
+        point: u8,
         level: u8,
         state: u16,
         event: Option<u8>,
@@ -205,7 +215,7 @@ impl Fault {
                 state,
                 event,
             } => {
-                Fields::failed(point as u8, level)
+                Fields::failed(point, level)
                     .place(u32::from(state))
                     .event(event.unwrap_or(UNUSED))
             }

@@ -2,7 +2,6 @@
 use Rattle.std.proofs.Common.{◌≡◌, ℕ, ◌≤◌, true, ◌&&◌, leb, [], ◌∷◌, ◌++◌, set, Some, None, refl, ap, ◌∙◌, arith}
 use Rattle.std.proofs.lemmas.Bool.{and_from, le-leb}
 use Rattle.model.specs.declared.fault.Fault.TheVariants.{Alphabet, Point}
-use Rattle.model.specs.declared.fault.Point.TheVariants as point
 use Rattle.hisc.specs.Lines.{Line, possible, marked}
 use Rattle.hisc.specs.Sizes.{Cells, size, code, largest_low, largest_walk, enough}
 use Rattle.hisc.specs.Points.{Points}
@@ -38,13 +37,13 @@ unfolding size largest_low
 whole-told cells h = sound whole_line whole-read (passes (sizes (the_line whole_line) refl) (six-enough (the_line whole_line) cells refl h) whole-points)
 
 -- the copies that the check refuses
-lost-fault : FirstFault (the_line lost_line) (Point point.AnswersReachable 1 4 (Some 2))
+lost-fault : FirstFault (the_line lost_line) (Point 5 1 4 (Some 2))
 unfolding possible marked size code
 lost-fault =
     first-failing (the_line lost_line) lost-made high_words lost_words alone_words (alphabets ++ (command_pair 1 ∷ requests_accepted 1 ∷ [])) (answers_reachable 1) after_five 4 (Some 2) refl
     (answer-witness (the_line lost_line) lost-made high_words lost_words alone_words 1 4 2 [] 1 refl refl refl refl refl refl refl refl)
 
-unmarked-fault : FirstFault (the_line unmarked_line) (Point point.RestReachable 1 0 None)
+unmarked-fault : FirstFault (the_line unmarked_line) (Point 6 1 0 None)
 unfolding possible marked size code
 unmarked-fault =
     first-failing (the_line unmarked_line) unmarked-made high_words low_words alone_words (alphabets ++ to_six) (rest_reachable 1) after_six 0 None refl
@@ -55,11 +54,11 @@ wrong-fault =
     first-failing (the_line wrong_line) wrong-made high_words low_words alone_words (alphabet_known 0 ∷ alphabet_known 1 ∷ alphabet_known 2 ∷ alphabet_known 3 ∷ []) (alphabet_known 4)
     (to_six ++ after_five) 0 (Some 2) refl (alphabet-witness (the_line wrong_line) wrong-made high_words low_words alone_words 4 2 refl refl)
 
-pub lost-told : (cells : Cells) → AtLeast 6 cells → VerdictOn (set small_file 90 255) cells (faulty (Point point.AnswersReachable 1 4 (Some 2)))
+pub lost-told : (cells : Cells) → AtLeast 6 cells → VerdictOn (set small_file 90 255) cells (faulty (Point 5 1 4 (Some 2)))
 unfolding size largest_low
 lost-told cells h = refused lost_line lost-read (refuses (sizes (the_line lost_line) refl) (six-enough (the_line lost_line) cells refl h) lost-fault)
 
-pub unmarked-told : (cells : Cells) → AtLeast 6 cells → VerdictOn (set small_file 80 45) cells (faulty (Point point.RestReachable 1 0 None))
+pub unmarked-told : (cells : Cells) → AtLeast 6 cells → VerdictOn (set small_file 80 45) cells (faulty (Point 6 1 0 None))
 unfolding size largest_low
 unmarked-told cells h = refused unmarked_line unmarked-read (refuses (sizes (the_line unmarked_line) refl) (six-enough (the_line unmarked_line) cells refl h) unmarked-fault)
 

@@ -5,7 +5,6 @@ use Rattle.model.specs.declared.fault.Layer.TheVariants.{File, Body as BodyLayer
 use Rattle.model.specs.declared.fault.Fields.{Fields}
 use Rattle.model.specs.declared.fault.Fault.{Fault}
 use Rattle.model.specs.declared.fault.Fault.TheVariants.{Header, Contents, Body, Alphabet, Point, EventNumber, Refused}
-use Rattle.model.specs.declared.fault.Point.TheVariants as point
 use Rattle.hisc.specs.Lines.{Line, initial}
 use Rattle.hisc.specs.Sizes.{Cells, bound}
 use Rattle.hisc.specs.Calls.{Offer, accepted, refused as refusal, replies}
@@ -96,9 +95,9 @@ pub record WorkedEntries : Type 0 where
   -- the whole file: passed, with 6 states of the high walk and 6 of the low one
   pub whole : (cells : Cells) → AtLeast 6 cells → VerdictOn small_file cells (passed 6 (6 ∷ []))
   -- byte 90 from 2 to 255, so that the plant lacks the L event: no word leads to the answer 2 after the request
-  pub lost_answer : CheckFault (slice_set small_file 90 255) (Point point.AnswersReachable 1 4 (Some 2)) (fields 14 Check 5 1 255 4 2)
+  pub lost_answer : CheckFault (slice_set small_file 90 255) (Point 5 1 4 (Some 2)) (fields 14 Check 5 1 255 4 2)
   -- byte 80 to -, so that no state of the plant is marked: no word of L events leads to rest
-  pub unmarked_plant : CheckFault (slice_set small_file 80 45) (Point point.RestReachable 1 0 None) (fields 14 Check 6 1 255 0 255)
+  pub unmarked_plant : CheckFault (slice_set small_file 80 45) (Point 6 1 0 None) (fields 14 Check 6 1 255 0 255)
   -- byte 111 from 2 to 3, so that the interface knows event 3 and not 2
   pub wrong_answer : CheckFault (slice_set small_file 111 3) (Alphabet 1 4 2) (fields 14 Check 1 1 4 255 2)
   -- the last byte is missing, so that the last body runs past the end
