@@ -57,9 +57,9 @@ module _ (E : ℕ) (body : List ℕ) where
   unfolding shape_in
   shape-counter h = rw (ne_eqb (get_or body 0 0) 84 (λ e. omega arith), eq-eqb (get_or body 0 0) 67 h)
 
-  pub shape-stock : get_or body 0 0 ≡ 73 → shape_in E body ≡ stock_in body
+  pub shape-stock : (get_or body 0 0 ≡ 84 → ⊥) → (get_or body 0 0 ≡ 67 → ⊥) → shape_in E body ≡ stock_in body
   unfolding shape_in
-  shape-stock h = rw (ne_eqb (get_or body 0 0) 84 (λ e. omega arith), ne_eqb (get_or body 0 0) 67 (λ e. omega arith))
+  shape-stock t c = rw (ne_eqb (get_or body 0 0) 84 t, ne_eqb (get_or body 0 0) 67 c)
 
   -- no byte fits past the make's size
   table-past : (i : ℕ) → 3 + E + get_or body 1 0 + get_or body 1 0 * E ≤ i → table_fits E body i ≡ false

@@ -246,7 +246,7 @@ module _ (E : ℕ) (body : List ℕ) (few : E ≤ 64) (size : length body ≡ 6)
 pub stocks-plain : Stocks-plain
 stocks-plain component origin E body s few read letter =
     let i = eqb-true (get_or body 0 0) 73 letter in
-    let shape_is : s ≡ stock_in body = read-shape component origin E body s read ∙ shape-stock E body i in
+    let shape_is : s ≡ stock_in body = read-shape component origin E body s read ∙ shape-stock E body (λ t. omega arith) (λ t. omega arith) in
     let size = read-size component origin E body s read in
     rw shape_is
     (stock-plain E body few (grind (arith, nat_tests, size))

@@ -11,6 +11,9 @@ use crate::make::{NO_EVENT, NO_MOVE};
 pub(crate) struct Body<'a> {
     pub(crate) bytes: &'a [u8],
     pub(crate) events: u8,
+    // byte 1, how many states a table has: all its places go by it, so it is read once
+    pub(crate) count: u8,
+    ghost counted: { count ≡ slice_index bytes.now 1 },
 }
 
 impl<'a> Body<'a> {
@@ -35,7 +38,7 @@ impl<'a> Body<'a> {
         ensures { result ≡ table_fits self.now.events self.now.bytes.now place }
     {
         let byte = self.byte(place);
-        let count = self.byte(1);
+        let count = self.count;
         let width = usize::from(self.events);
         let marks = 3 + width;
         let targets = marks + usize::from(count);
@@ -46,8 +49,10 @@ impl<'a> Body<'a> {
             _ if place < marks => matches!(byte as char, '+' | '-'),
             _ if place < targets => matches!(byte as char, 'm' | '-'),
             _ if place < targets + usize::from(count) * width => {
-                let letter = self.byte(3 + (place - targets) % width);
-                byte == NO_MOVE || byte < count && matches!(letter as char, '+')
+                // the column's letter is looked at for a state alone
+                byte == NO_MOVE
+                    || byte < count
+                        && matches!(self.byte(3 + (place - targets) % width) as char, '+')
             }
             _ => false,
         }
@@ -104,7 +109,7 @@ impl<'a> Body<'a> {
         ensures small { result < 65539 }
     {
         let width = usize::from(self.events);
-        let count = usize::from(self.byte(1));
+        let count = usize::from(self.count);
         match self.byte(0) as char {
             'T' => 3 + width + count + count * width,
             'C' => 2 + width,

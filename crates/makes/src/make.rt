@@ -54,7 +54,13 @@ impl<'a> Make<'a> {
         ensures { meant shape result ≡ body_reading component origin events body.now }
     {
         let bytes = body;
-        whole(&Body { bytes, events }, component, origin)?;
+        let count = byte_or(bytes, 1, 0);
+        let tested = Body {
+            bytes,
+            events,
+            count,
+        };
+        whole(&tested, component, origin)?;
         Ok(Make::cut(bytes, events))
     }
 
