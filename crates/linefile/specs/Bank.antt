@@ -18,10 +18,18 @@ abbrev pub component_in : EventChart → ℕ → List ℕ → Gen
 component_in chart c body =
     cond (is_interface c) (gen_of (shape_in chart.events body)) (looped (gen_of (shape_in chart.events body)) (alphabet_of chart (level_of c)))
 
+-- component c of a bank over E events that holds the bodies, where `inside` tells the events of each level's alphabet
+abbrev pub component_over : (E : ℕ) (inside : ℕ → ℕ → Bool) (bodies : List (List ℕ)) → ℕ → Gen
+component_over E inside bodies c =
+    looped (gen_of (shape_in E (slice_index_or bodies (c + 1) []))) (λ e. not (is_interface c) && inside (level_of c) e)
+
+-- the first `len` of its components
+abbrev pub list_over : (len E : ℕ) (inside : ℕ → ℕ → Bool) (bodies : List (List ℕ)) → List Gen
+list_over len E inside bodies = map (component_over E inside bodies) (range_with_len 0 len)
+
 -- component c of a bank that holds the chart and the bodies
 abbrev pub component_from : EventChart → (bodies : List (List ℕ)) → ℕ → Gen
-component_from chart bodies c =
-    looped (gen_of (shape_in chart.events (slice_index_or bodies (c + 1) []))) (λ e. not (is_interface c) && alphabet_of chart (level_of c) e)
+component_from chart bodies c = component_over chart.events (alphabet_of chart) bodies c
 
 abbrev pub list_from : EventChart → (bodies : List (List ℕ)) → List Gen
-list_from chart bodies = map (component_from chart bodies) (range_with_len 0 (components chart.levels))
+list_from chart bodies = list_over (components chart.levels) chart.events (alphabet_of chart) bodies
