@@ -1,4 +1,4 @@
-// The verdict on a line file, as linecheck writes it.
+// The verdict on the reading of a line file, and how a verdict is written.
 ghost use Rattle.std.specs.Prelude.{◌≡◌};
 ghost use Rattle.report.specs.Verdicts.{verdict_on};
 

@@ -17,5 +17,8 @@ returns g c =
     let k = c.args.self.now.passed.line.chart in
     let sizes = c.sizes-sizes.ensures in
     let low = c.largest_low-low.ensures ∙ ap greatest_low sizes ∙ greatest-low (line_in c.args.self.now) (well-charted k).few_levels in
+    let most =
     c.most_offers.ensures ∙ ap (λ (n : ℕ). bound_of n c.sizes-sizes.result.high c.largest_low-low.result) c.levels.ensures.value
     ∙ ap₂ (bound_of (chart_of k).levels) (ap (λ (z : WalkSizes). z.high) sizes) low
+    in
+    search (rules, most)
